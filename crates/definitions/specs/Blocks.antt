@@ -89,10 +89,12 @@ pub record Idx3DOffset : Type 0 where
   pub dy : ℤ
   pub dx : ℤ
 
--- x fastest
+-- x fastest; by the axes of a and of b
+abbrev pub axesOffsets : ℕ → ℕ → ℕ → ℕ → ℕ → ℕ → List Idx3DOffset
+axesOffsets az ay ax bz by bx = flatMap (λ dz. flatMap (λ dy. map (λ dx. record { dz = dz; dy = dy; dx = dx }) (offsets ax bx)) (offsets ay by)) (offsets az bz)
+
 abbrev pub offsetsOf : CartesianBlock → CartesianBlock → List Idx3DOffset
-offsetsOf a b =
-    flatMap (λ dz. flatMap (λ dy. map (λ dx. record { dz = dz; dy = dy; dx = dx }) (offsets (a .nx) (b .nx))) (offsets (a .ny) (b .ny))) (offsets (a .nz) (b .nz))
+offsetsOf a b = axesOffsets (a .nz) (a .ny) (a .nx) (b .nz) (b .ny) (b .nx)
 
 abbrev pub isPos : ℤ → Bool
 isPos (pos n) = ltb 0 n
