@@ -1,0 +1,1 @@
+// Laws of whole numbers, floats, sums, folds and grids that the proofs of several crates share.

@@ -1,0 +1,9 @@
+pub mod Pairs
+pub mod Blocks
+pub mod RunExact
+pub mod Accepted
+pub mod Exact
+pub mod Swap
+pub mod Listing
+pub mod Demand3
+pub mod Examples
