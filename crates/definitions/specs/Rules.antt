@@ -1,4 +1,5 @@
 -- Operations and where each stops: every rule and limit with its number, a table for each operation, in the stated order. Definitions only.
+use mathlib.Core.Option.{Option, none, some}
 use mathlib.Core.List.{List, [], _∷_, _++_}
 use mathlib.Core.Bool.{Bool, true, false, not, cond, _&&_, _||_}
 use Prim.Native.Nat.{ℕ, _+_, _-_, _*_, _/_, _%_}
@@ -26,6 +27,10 @@ rule n b = record { number = n; broken = b }
 abbrev pub refusal : List Rule → ℕ
 refusal [] = 0
 refusal (r ∷ l) = cond (r .broken) (r .number) (refusal l)
+
+-- the number that a call gives, if it gives one
+abbrev pub met : ℕ → Option ℕ
+met n = cond (eqb n 0) none (some n)
 
 -- a where no rule is broken, else b: what a call leaves
 abbrev pub ifAccepted : {A : Type 0} → List Rule → A → A → A

@@ -1,12 +1,14 @@
 -- Tables of rules: the first broken rule of two tables one after the other, and what follows where none is broken.
 use mathlib.Core.Path.{_≡_, refl, sym, ap, _∙_}
+use mathlib.Core.Option.{some, none}
 use mathlib.Core.List.{List, [], _∷_, _++_}
 use mathlib.Core.Bool.{Bool, true, false, not, cond, _&&_}
 use Prim.Native.Nat.{ℕ}
 use lib.Dec.{T, eqb, T-not}
 use lib.Ieee.Fits.{and-i, and-l, and-r}
 use lib.Ieee.Bits.{is-false}
-use Rattle.definitions.specs.Rules.{Rule, refusal}
+use borrow.Author.Tests.{eq-eqb, ne-eqb}
+use Rattle.definitions.specs.Rules.{Rule, refusal, met, ifAccepted}
 
 -- no rule has the number 0, which stands for none: of a written table this computes
 abbrev pub numbered : List Rule → Bool
@@ -76,3 +78,20 @@ broken-right (r ∷ l) m h = broken-right l m (and-r (not (r .broken)) (noneBrok
 pub broken-both : (l m : List Rule) → T (noneBroken l) → T (noneBroken m) → T (noneBroken (l ++ m))
 broken-both [] m h k = k
 broken-both (r ∷ l) m h k = and-i (not (r .broken)) (noneBroken (l ++ m)) (and-l (not (r .broken)) (noneBroken l) h) (broken-both l m (and-r (not (r .broken)) (noneBroken l) h) k)
+
+-- ---- what a call answers and leaves, by its refusal's number, which the code has as x
+module _ (l : List Rule) (x : ℕ) (q : x ≡ refusal l) where
+  pub none-met : x ≡ 0 → none ≡ met (refusal l)
+  none-met z = rw (← q, eq-eqb x 0 z)
+
+  pub number-met : (x ≡ 0 → ⊥) → some x ≡ met (refusal l)
+  number-met z = rw (← q, ne-eqb x 0 z)
+
+  module _ {A : Type 0} (a b : A) where
+    pub refused-left : (x ≡ 0 → ⊥) → b ≡ ifAccepted l a b
+    refused-left z = rw (← q, ne-eqb x 0 z)
+
+    pub accepted-left : x ≡ 0 → (d : A) → d ≡ a → d ≡ ifAccepted l a b
+    accepted-left z d e = rw (← q, eq-eqb x 0 z) e
+
+pub ruleset answers = (none-met, number-met, refused-left, accepted-left)

@@ -1,0 +1,3 @@
+pub mod Regular
+pub mod Lookups
+pub mod Irregular

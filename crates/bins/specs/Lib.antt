@@ -1,0 +1,2 @@
+-- What this crate's answers mean.
+pub mod Answers

@@ -1,0 +1,4 @@
+pub mod Refusals
+pub mod Packs
+pub mod Results
+pub mod View

@@ -1,0 +1,70 @@
+use borrow.Author.Needs.{needs}
+use mathlib.Core.Path.{_≡_, refl}
+use Prim.Native.Nat.{_≤_, _-_}
+use native.Mathlib.Omega.{arith}
+use lib.ListN.{length, length-set}
+use Rattle.definitions.specs.State.{mergePacks}
+use Rattle.state.proofs.Packs.{merge-turn, merge-done}
+use Rattle.state.proofs.add_first.Statement.{statement}
+use Rattle.state.proofs.add_first.Tie as tie
+
+abbrev Inv-loop : tie.InvT-loop
+Inv-loop pack₀ other n i₀ pack i = (i ≤ n) × (length pack ≡ length pack₀) × (pack ≡ mergePacks i pack₀ other)
+
+abbrev μ-loop : tie.MeasureT-loop
+μ-loop pack₀ other n i₀ pack i = n - i
+
+loop-holds : tie.Need-loop-holds Inv-loop μ-loop
+loop-holds c = (omega arith, refl, refl)
+
+mul-pack : tie.Need-mul-pack Inv-loop μ-loop
+mul-pack c = search needs
+
+slice-read-pack : tie.Need-slice-read-pack Inv-loop μ-loop
+slice-read-pack c = search needs
+
+mul-pack-2 : tie.Need-mul-pack-2 Inv-loop μ-loop
+mul-pack-2 c = search needs
+
+shared-slice-read-pack : tie.Need-shared-slice-read-pack Inv-loop μ-loop
+shared-slice-read-pack c = search needs
+
+mul-pack-3 : tie.Need-mul-pack-3 Inv-loop μ-loop
+mul-pack-3 c = search needs
+
+slice-write-pack : tie.Need-slice-write-pack Inv-loop μ-loop
+slice-write-pack c = search needs
+
+add-i : tie.Need-add-i Inv-loop μ-loop
+add-i c = search needs
+
+loop-less : tie.Need-loop-less Inv-loop μ-loop
+loop-less c = search needs
+
+loop-again : tie.Need-loop-again Inv-loop μ-loop
+loop-again c = (omega arith, simp length-set (omega arith), search merge-turn)
+
+same-length : tie.Need-same-length Inv-loop μ-loop
+same-length c = search needs
+
+returns : tie.Need-returns Inv-loop μ-loop
+returns c = search merge-done
+
+pub add-first-spec : {M : Type 1} → statement M
+add-first-spec =
+    tie.close
+    (tie.spec
+    Inv-loop
+    μ-loop
+    loop-holds
+    mul-pack
+    slice-read-pack
+    mul-pack-2
+    shared-slice-read-pack
+    mul-pack-3
+    slice-write-pack
+    add-i
+    loop-less
+    loop-again
+    same-length
+    returns)

@@ -1,0 +1,15 @@
+use borrow.Author.Needs.{needs}
+use Rattle.state.proofs.reset_refusal.Statement.{statement}
+use Rattle.state.proofs.reset_refusal.Tie as tie
+
+product-over-requires : tie.Need-product-over-requires
+product-over-requires c κs = search needs
+
+pack-refusal-requires : tie.Need-pack-refusal-requires
+pack-refusal-requires c κs = search needs
+
+returns : tie.Need-returns
+returns c = cc
+
+pub reset-refusal-spec : {M : Type 1} → statement M
+reset-refusal-spec = tie.close (tie.spec product-over-requires pack-refusal-requires returns)
