@@ -10,11 +10,12 @@ use crate::words::{inputs, record};
 use std::io;
 use std::path::Path;
 
-/// A file of the list: its name, its operations as `NAMES` counts them, and its size at most in bytes.
+/// A file of the list: its name, its operations as `NAMES` counts them, whether it holds every ordered pair of faults, and its size at most in bytes.
 struct Part {
     file: &'static str,
     low: usize,
     high: usize,
+    extent: Extent,
     bytes: usize,
 }
 
@@ -23,30 +24,35 @@ const PARTS: [Part; 5] = [
         file: "lookup.bin",
         low: 0,
         high: 2,
-        bytes: 60_000,
+        extent: Extent::All,
+        bytes: 160_000,
     },
     Part {
         file: "segments.bin",
         low: 2,
         high: 3,
-        bytes: 30_000,
+        extent: Extent::All,
+        bytes: 40_000,
     },
     Part {
         file: "pack.bin",
         low: 3,
         high: 7,
-        bytes: 60_000,
+        extent: Extent::All,
+        bytes: 560_000,
     },
     Part {
         file: "points.bin",
         low: 7,
         high: 9,
+        extent: Extent::Few,
         bytes: 150_000,
     },
     Part {
         file: "blocks.bin",
         low: 9,
         high: 11,
+        extent: Extent::Few,
         bytes: 150_000,
     },
 ];
@@ -71,7 +77,7 @@ pub fn write(seed: u64, directory: &Path) -> io::Result<()> {
 /// The directed cases, then random ones as long as they fit.
 fn part_words(part: &Part, seed: u64) -> (Vec<u64>, usize, usize) {
     let mut words = Vec::new();
-    let directed = make::directed(part.low, part.high, Extent::Few);
+    let directed = make::directed(part.low, part.high, part.extent);
     for case in &directed {
         words.extend(answered(case));
     }
