@@ -1,4 +1,5 @@
 // One call for each record, and whether it answered as the list says.
+ghost use mathlib.Core.Path.{_≡_};
 ghost use Prim.Native.Nat.{_≤_};
 ghost use lib.ListN.{length};
 use bins::Lookup;
@@ -92,7 +93,7 @@ fn segment(words: &[u64]) -> bool {
 }
 
 // A part of the record, copied for a call to work on.
-fn load(from: &[f64], slice: &mut [f64]) {
+pub fn load(from: &[f64], slice: &mut [f64]) {
     if slice.len() <= from.len() {
         crate::words::copy(from, slice);
     }
@@ -227,7 +228,9 @@ fn result(words: &[u64], floats: &[f64], room: &mut [f64]) -> bool {
 }
 
 // Whether the call of the record answers as the list says.
-pub fn agrees(op: u64, words: &[u64], floats: &[f64], room: &mut [f64]) -> bool {
+pub fn agrees(op: u64, words: &[u64], floats: &[f64], room: &mut [f64]) -> bool
+    requires { ⌜ (length (now floats) ≡ length (now words)) × (length (now words) ≤ 8192) ⌝ }
+{
     match op {
         1 => regular_lookup(words, floats),
         2 => irregular_lookup(words, floats),
@@ -236,12 +239,13 @@ pub fn agrees(op: u64, words: &[u64], floats: &[f64], room: &mut [f64]) -> bool 
         5 => merge(words, floats, room),
         6 => consolidate(words, floats, room),
         7 => result(words, floats, room),
+        8 => crate::runs::points(words, floats, room),
         _ => false,
     }
 }
 
 // The number stands at `at`, and what the slice holds after it.
-fn answered(answer: Outcome, slice: &[f64], words: &[u64], at: usize) -> bool {
+pub fn answered(answer: Outcome, slice: &[f64], words: &[u64], at: usize) -> bool {
     if words.len() <= at {
         return false;
     }

@@ -4,6 +4,7 @@ ghost use Prim.Native.Nat.{_*_, _≤_};
 ghost use lib.ListN.{length};
 
 mod cases;
+mod runs;
 mod words;
 
 use libc::STDOUT_FILENO;
@@ -46,7 +47,7 @@ fn call(
     floats: &mut [f64],
     room: &mut [f64],
 ) -> bool
-    requires { ⌜ (length (now words) ≤ 8192) × (length (now floats) ≤ length (now words)) ⌝ }
+    requires { ⌜ (length (now words) ≤ 8192) × (length (now floats) ≡ length (now words)) ⌝ }
 {
     if io::read_full(fd, bytes) != bytes.len() {
         return false;
@@ -147,4 +148,5 @@ fn main() {
     replay(b"lookup.bin");
     replay(b"segments.bin");
     replay(b"pack.bin");
+    replay(b"points.bin");
 }

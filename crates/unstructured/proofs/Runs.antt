@@ -1,0 +1,227 @@
+-- A run's loops leave in scratch, place by place, what the definitions say; so the caller's pack is merged.
+use mathlib.Core.Path.{_≡_, refl, sym, ap, _∙_}
+use mathlib.Core.Option.{Option, none, some}
+use mathlib.Core.Bool.{Bool, true, false, cond}
+use mathlib.Core.List.{List, [], _∷_}
+use Prim.Native.Nat.{ℕ, _+_, _*_, _<_, _≤_}
+use native.Mathlib.Omega.{arith}
+use lib.ListN.{length, take, replicate, length-replicate}
+use lib.Ieee.{Float}
+use mir.Syntax.{w64}
+use mir.Val.{Fits}
+use Rattle.definitions.specs.Lists.{at, addOpt, foldAt}
+use Rattle.definitions.specs.Floats.{zeroF}
+use Rattle.definitions.specs.Bins as definitions
+use Rattle.definitions.specs.Bins.{bins, binOf}
+use Rattle.definitions.specs.Points as points
+use Rattle.definitions.specs.Points.{UnstructuredPoints, strideOr, squaredDiffNorm}
+use Rattle.definitions.specs.Reducer as kinds
+use Rattle.definitions.specs.Reducer.{Datum, datumOf, kindSize, pairIn, pairTerm}
+use Rattle.definitions.specs.Run as run
+use Rattle.definitions.specs.Run.{Run, used, stateAt, numberAt, pairOf, pairAt, scratch, merged}
+use Rattle.definitions.specs.Rules.{refusal, overSets, setRules, pairRules, runRules, step, met}
+use Rattle.laws.proofs.Places.{foldPack, placewise}
+use Rattle.reducer.specs.declared.Edges.{Edges}
+use Rattle.reducer.specs.declared.Kind.{Kind}
+use Rattle.reducer.specs.declared.PairOperation.{PairOperation}
+use Rattle.reducer.specs.declared.BuiltEdges.{BuiltEdges}
+use Rattle.reducer.specs.declared.Reducer.{Reducer}
+use Rattle.reducer.specs.Readings.{opOf, edgesOf, kindOf}
+use Rattle.reducer.specs.Consume.{madeEdges, made, builtBin, consumed}
+use Rattle.reducer.proofs.Placewise.{bin-bounded, room, made-bin, consumed-length, consumed-at}
+use Rattle.parallel_serial.specs.declared.Shape.{Shape}
+use Rattle.parallel_serial.specs.Drive as drive
+use Rattle.parallel_serial.specs.Drive.{zeroPack, addedScratch, builtEdges, builtReducer, runNumber, runOf}
+use Rattle.parallel_serial.proofs.Refusals.{run-number, Drivable, Accepted, accepted}
+use Rattle.parallel_serial.proofs.Built.{built-made, reducer-made}
+use Rattle.parallel_serial.proofs.Scratch.{lent-length, lent-zeros, zero-at, added-merged, step-refused, step-done, run-refused, run-done}
+use Rattle.unstructured.specs.declared.PointSet.{PointSet}
+use Rattle.unstructured.specs.declared.Setup.{Setup}
+use Rattle.unstructured.specs.Readings.{strideOf, pointsOf, setsRun}
+use Rattle.unstructured.specs.Pairs.{Readable, Held, pointIn, pointsIn, pairsFor, setsFor, builtPair, pairAdded, pairStep, filled, setsNumber}
+use Rattle.unstructured.proofs.Rules.{held-sets}
+
+-- ---- the points that the loops read
+module _ (p v w : List Float) (set : PointSet) (k : ℕ) (q : k ≡ strideOr (set .«n_points») (strideOf (set .stride))) where
+  pub listed : pointsIn p v w k (set .«n_points») ≡ points.points (pointsOf set p v w)
+  unfolding pointsIn pointIn
+  listed = rw q
+
+-- ---- one pair at one place
+module _ (list valueEdges : List Float) (edges : Edges) (kind : Kind) (op : PairOperation) (shape : Shape) (sets : run.Sets) where
+  abbrev theRun : Run
+  theRun = runOf sets (opOf op) (edgesOf edges list) (kindOf kind valueEdges) shape
+
+  -- what is built of accepted edges and kinds
+  abbrev theSetup : Setup
+  theSetup = record { op = op; edges = madeEdges edges; reducer = made kind; «n_states» = bins (edgesOf edges list) }
+
+  step-length : (q : points.Point × points.Point) (s : List Float) → length (pairStep theSetup list valueEdges q s) ≡ length s
+  unfolding pairStep builtPair
+  step-length q s = go (builtBin (madeEdges edges) list (squaredDiffNorm (q .0) (q .1))) (datumOf (opOf op) (q .0 .rd) (q .1 .rd))
+    where
+      go : (o : Option ℕ) (d : Datum) → length (pairAdded theSetup valueEdges (pairIn o d) s) ≡ length s
+      go none d = refl
+      go (some b) d = consumed-length valueEdges (bins (edgesOf edges list)) b d s (made kind)
+
+  module _ (few : bins (edgesOf edges list) ≤ 256) (small : kindSize (kindOf kind valueEdges) ≤ 256) where
+    step-at : (q : points.Point × points.Point) (s : List Float) (p : ℕ) → length s ≡ used theRun → p < used theRun
+        → at (pairStep theSetup list valueEdges q s) p ≡ addOpt (pairAt theRun p q) (at s p)
+    unfolding pairStep builtPair
+    step-at q s p e h = (rw (made-bin list edges (squaredDiffNorm (q .0) (q .1)))) ∙ go (binOf (edgesOf edges list) (squaredDiffNorm (q .0) (q .1))) refl
+      where
+        d : Datum
+        d = datumOf (opOf op) (q .0 .rd) (q .1 .rd)
+
+        go : (o : Option ℕ) → binOf (edgesOf edges list) (squaredDiffNorm (q .0) (q .1)) ≡ o
+            → at (pairAdded theSetup valueEdges (pairIn o d) s) p
+            ≡ addOpt (pairTerm (kindOf kind valueEdges) (stateAt (bins (edgesOf edges list)) p) (numberAt (bins (edgesOf edges list)) p) (pairIn o d)) (at s p)
+        go none i = refl
+        go (some b) i =
+            consumed-at valueEdges (bins (edgesOf edges list)) b d s kind
+            (room (bins (edgesOf edges list)) (kindSize (kindOf kind valueEdges)) b (length s) (omega arith) (omega arith) (bin-bounded (edgesOf edges list) (squaredDiffNorm (q .0) (q .1)) b i) (omega arith)) p (omega arith)
+
+    -- ---- the whole of scratch, from zeros
+    filled-length : (auto : Bool) (l m : List points.Point) (s : List Float) → length (filled theSetup list valueEdges auto l m s) ≡ length s
+    unfolding filled
+    filled-length auto l m s = go (pairsFor auto l m) s
+      where
+        go : (q : List (points.Point × points.Point)) (z : List Float) → length (foldPack (pairStep theSetup list valueEdges) q z) ≡ length z
+        go [] z = refl
+        go (a ∷ q) z = go q (pairStep theSetup list valueEdges a z) ∙ step-length a z
+
+    filled-at : (auto : Bool) (l m : List points.Point) (p : ℕ) → p < used theRun
+        → at (filled theSetup list valueEdges auto l m (replicate (used theRun) (zeroF false))) p ≡ foldAt (pairAt theRun p) (zeroF false) (pairsFor auto l m)
+    unfolding filled
+    filled-at auto l m p h =
+        placewise (pairStep theSetup list valueEdges) (used theRun) (λ p q. pairAt theRun p q) step-length step-at (pairsFor auto l m) (replicate (used theRun) (zeroF false)) p
+        (length-replicate (used theRun) (zeroF false)) h
+        ∙ ap (λ (x : Float). foldAt (pairAt theRun p) x (pairsFor auto l m)) (zero-at (used theRun) p h)
+
+pub scratch-is : (r : Run) (auto : Bool) (a b : UnstructuredPoints) (p : ℕ) → r .sets ≡ setsFor auto a b → scratch r p ≡ foldAt (pairAt r p) (zeroF false) (pairsFor auto (points.points a) (points.points b))
+unfolding run.scratch run.scratchOf
+scratch-is r true a b p e = rw e
+scratch-is r false a b p e = rw e
+
+-- ---- an accepted run
+module _ (e : definitions.Edges) (k : kinds.Kind) (shape : Shape) (len : ℕ) (d : Drivable e k shape len) where
+  pub used-limit : shape .«n_states» * shape .«state_size» ≤ 4096
+  used-limit = rw (d .states, d .size) (d .limit)
+
+  pub used-fits : Fits w64 (shape .«n_states» * shape .«state_size»)
+  used-fits = record { fits = omega (arith, used-limit) }
+
+  pub used-lent : (z : List Float) → z ≡ zeroPack → shape .«n_states» * shape .«state_size» ≡ length (take (shape .«n_states» * shape .«state_size») z)
+  used-lent z h = lent-length z (shape .«n_states» * shape .«state_size») used-limit h
+
+  pub used-part : (z : List Float) → z ≡ zeroPack → shape .«n_states» * shape .«state_size» ≤ length z
+  unfolding drive.zeroPack
+  used-part z h = omega (arith, used-limit, ap length h, length-replicate 4096 (zeroF false))
+
+module _ (pa va wa : List Float) (a : PointSet) (sa : ℕ) (qa : sa ≡ strideOr (a .«n_points») (strideOf (a .stride))) where
+  pub readable : Held (pointsOf a pa va wa) → Readable pa va wa (a .«n_points») sa
+  readable h = rw qa h
+
+  module _ (pb vb wb : List Float) (b : PointSet) (sb : ℕ) (qb : sb ≡ strideOr (b .«n_points») (strideOf (b .stride))) (auto : Bool) where
+    module _ (same : cond auto (pointsOf a pa va wa) (pointsOf b pb vb wb) ≡ pointsOf b pb vb wb) where
+      -- what holds of the two sets holds of what is read of them
+      of-both : {A : Type 0} (f : UnstructuredPoints → A) (t : Bool) → cond t (pointsOf a pa va wa) (pointsOf b pb vb wb) ≡ pointsOf b pb vb wb
+          → cond t (f (pointsOf a pa va wa)) (f (pointsOf b pb vb wb)) ≡ f (pointsOf b pb vb wb)
+      of-both f true e = ap f e
+      of-both f false e = refl
+
+      pub same-points : cond auto (pointIn pa va wa sa) (pointIn pb vb wb sb) ≡ pointIn pb vb wb sb
+      same-points = rw (qa, qb) (of-both (λ s. pointIn (s .positions) (s .values) (s .weights) (points.stride s)) auto same)
+
+      pub same-count : cond auto (a .«n_points») (b .«n_points») ≡ b .«n_points»
+      same-count = of-both (λ s. s .count) auto same
+
+-- q is what the pack holds after a run of the loops from zeros
+pub driven : (auto : Bool) (pa va wa : List Float) (a : PointSet) (pb vb wb : List Float) (b : PointSet) (edges : Edges) (list : List Float) (kind : Kind) (valueEdges : List Float) (op : PairOperation)
+    (shape : Shape) (s z q : List Float) (be : BuiltEdges) (rd : Reducer) (sa sb : ℕ)
+    → q
+    ≡ addedScratch s
+    (filled (record { op = op; edges = be; reducer = rd; «n_states» = shape .«n_states» }) list valueEdges auto (pointsIn pa va wa sa (a .«n_points»)) (pointsIn pb vb wb sb (b .«n_points»))
+    (take (shape .«n_states» * shape .«state_size») z))
+    → z ≡ zeroPack → sa ≡ strideOr (a .«n_points») (strideOf (a .stride)) → sb ≡ strideOr (b .«n_points») (strideOf (b .stride)) → be ≡ builtEdges edges → rd ≡ builtReducer kind
+    → Drivable (edgesOf edges list) (kindOf kind valueEdges) shape (length s)
+    → q ≡ merged (setsRun (setsFor auto (pointsOf a pa va wa) (pointsOf b pb vb wb)) edges list kind valueEdges op shape) s
+unfolding setsRun
+driven auto pa va wa a pb vb wb b edges list kind valueEdges op shape s z q be rd sa sb h ez qa qb eb er d =
+    let x = eb ∙ built-made edges list (d .edges) in
+    let y = er ∙ reducer-made kind valueEdges (d .values) in
+    let n = bins (edgesOf edges list) * kindSize (kindOf kind valueEdges) in
+    let u = (λ i. take (d .states i * d .size i) z) ∙ lent-zeros z n (d .limit) ez in
+    let sets = setsFor auto (pointsOf a pa va wa) (pointsOf b pb vb wb) in
+    h
+    ∙ (λ i. addedScratch s
+    (filled (record { op = op; edges = x i; reducer = y i; «n_states» = d .states i }) list valueEdges auto (listed pa va wa a sa qa i) (listed pb vb wb b sb qb i) (u i)))
+    ∙ added-merged (theRun list valueEdges edges kind op shape sets) s _
+    (filled-length list valueEdges edges kind op shape sets (d .few) (d .small) auto _ _ _ ∙ length-replicate n (zeroF false)) (d .within)
+    (λ p l.
+    filled-at list valueEdges edges kind op shape sets (d .few) (d .small) auto _ _ p l
+    ∙ sym (scratch-is (theRun list valueEdges edges kind op shape sets) auto (pointsOf a pa va wa) (pointsOf b pb vb wb) p refl))
+
+-- scratch after the loops, then added
+pub added-filled : (s t u q : List Float) → t ≡ u → q ≡ addedScratch s t → q ≡ addedScratch s u
+added-filled s t u q e h = h ∙ ap (addedScratch s) e
+
+-- ---- the number that a run answers, and what follows where there is none
+no-pair-rules : (auto : Bool) (a b : UnstructuredPoints) → refusal (pairRules (setsFor auto a b)) ≡ 0
+no-pair-rules true a b = refl
+no-pair-rules false a b = refl
+
+module _ (auto : Bool) (a b : PointSet) (pa va wa pb vb wb : List Float) where
+  -- the limits do not read the slices
+  over-sets : overSets (setsFor auto (pointsOf a [] [] []) (pointsOf b [] [] [])) ≡ overSets (setsFor auto (pointsOf a pa va wa) (pointsOf b pb vb wb))
+  over-sets = go auto
+    where
+      go : (t : Bool) → overSets (setsFor t (pointsOf a [] [] []) (pointsOf b [] [] [])) ≡ overSets (setsFor t (pointsOf a pa va wa) (pointsOf b pb vb wb))
+      go true = refl
+      go false = refl
+
+  -- r and n are what calls answered
+  pub by-calls : (r : Bool) (n : ℕ) (e : definitions.Edges) (k : kinds.Kind) (shape : Shape) (len x : ℕ) → r ≡ overSets (setsFor auto (pointsOf a [] [] []) (pointsOf b [] [] []))
+      → n ≡ refusal (setRules (setsFor auto (pointsOf a pa va wa) (pointsOf b pb vb wb))) → x ≡ runNumber r n 0 e k shape len
+      → x ≡ setsNumber (setsFor auto (pointsOf a pa va wa) (pointsOf b pb vb wb)) e k shape len
+  unfolding setsNumber
+  by-calls r n e k shape len x p q h = h ∙ (λ i. runNumber ((p ∙ over-sets) i) (q i) 0 e k shape len)
+
+module _ (auto : Bool) (a b : UnstructuredPoints) (edges : Edges) (list : List Float) (kind : Kind) (valueEdges : List Float) (shape : Shape) (s : List Float) (x : ℕ)
+    (h : x ≡ setsNumber (setsFor auto a b) (edgesOf edges list) (kindOf kind valueEdges) shape (length s)) where
+  module _ (op : PairOperation) where
+    abbrev this : Run
+    this = setsRun (setsFor auto a b) edges list kind valueEdges op shape
+
+    own-number : x ≡ refusal (runRules this (length s))
+    unfolding setsNumber setsRun
+    own-number =
+        h ∙ ap (λ (n : ℕ). runNumber (overSets (setsFor auto a b)) (refusal (setRules (setsFor auto a b))) n (edgesOf edges list) (kindOf kind valueEdges) shape (length s)) (sym (no-pair-rules auto a b))
+        ∙ run-number (setsFor auto a b) (opOf op) (edgesOf edges list) (kindOf kind valueEdges) shape (length s)
+
+    pub answer-refused : (x ≡ 0 → ⊥) → some x ≡ met (refusal (runRules this (length s)))
+    answer-refused n = run-refused this s x own-number n
+
+    pub stays : (x ≡ 0 → ⊥) → s ≡ step this s
+    stays n = step-refused this s x own-number n
+
+    pub answer-done : x ≡ 0 → none ≡ met (refusal (runRules this (length s)))
+    answer-done z = run-done this s x own-number z
+
+    pub done : x ≡ 0 → (q : List Float) → q ≡ merged this s → q ≡ step this s
+    done z q e = step-done this s x own-number z q e
+
+  module _ (z : x ≡ 0) where
+    all : Accepted (overSets (setsFor auto a b)) (refusal (setRules (setsFor auto a b))) 0 (edgesOf edges list) (kindOf kind valueEdges) shape (length s)
+    unfolding setsNumber
+    all = accepted (overSets (setsFor auto a b)) (refusal (setRules (setsFor auto a b))) 0 (edgesOf edges list) (kindOf kind valueEdges) shape (length s) (sym h ∙ z)
+
+    pub drivable : Drivable (edgesOf edges list) (kindOf kind valueEdges) shape (length s)
+    drivable = all .drivable
+
+    module _ (same : cond auto a b ≡ b) where
+      pub held-first : Held a
+      held-first = held-sets auto a b same (all .limits) (all .own) .0
+
+      pub held-second : Held b
+      held-second = held-sets auto a b same (all .limits) (all .own) .1

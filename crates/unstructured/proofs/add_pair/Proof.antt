@@ -1,0 +1,26 @@
+use Rattle.unstructured.proofs.Loops.{add-kept}
+use borrow.Author.Needs.{needs}
+use Rattle.unstructured.proofs.add_pair.Statement.{statement}
+use Rattle.unstructured.proofs.add_pair.Tie as tie
+
+enum-known-pair : tie.Need-enum-known-pair
+enum-known-pair c = search needs
+
+consume-requires : tie.Need-consume-requires
+consume-requires c κs = search needs
+
+enum-told : tie.Need-enum-told
+enum-told c = search needs
+
+same-length : tie.Need-same-length
+same-length c = search needs
+
+returns : tie.Need-returns
+returns c = search add-kept
+
+returns-2 : tie.Need-returns-2
+returns-2 c = search needs
+
+pub add-pair-spec : {M : Type 1} → statement M
+add-pair-spec =
+    tie.close (tie.spec enum-known-pair consume-requires enum-told same-length returns returns-2)
