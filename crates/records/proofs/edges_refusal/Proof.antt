@@ -1,0 +1,39 @@
+use native.Mathlib.Omega.{arith}
+use lib.ListN.{length-take}
+use Rattle.records.proofs.Rules.{edges-number}
+use borrow.Author.Needs.{needs}
+use Rattle.records.proofs.edges_refusal.Statement.{statement}
+use Rattle.records.proofs.edges_refusal.Tie as tie
+
+edge-numbers-requires : tie.Need-edge-numbers-requires
+edge-numbers-requires c κs = search needs
+
+slice-aggregate-decode : tie.Need-slice-aggregate-decode
+slice-aggregate-decode c = search needs
+
+decode-requires : tie.Need-decode-requires
+decode-requires c κs = search needs
+
+array-share-prefix-list : tie.Need-array-share-prefix-list
+array-share-prefix-list c = search needs
+
+slice-aggregate-edges-refusal : tie.Need-slice-aggregate-edges-refusal
+slice-aggregate-edges-refusal c = simp length-take (omega arith)
+
+edges-refusal-requires : tie.Need-edges-refusal-requires
+edges-refusal-requires c κs = search needs
+
+returns : tie.Need-returns
+returns c = search edges-number
+
+pub edges-refusal-spec : {M : Type 1} → statement M
+edges-refusal-spec =
+    tie.close
+    (tie.spec
+    edge-numbers-requires
+    slice-aggregate-decode
+    decode-requires
+    array-share-prefix-list
+    slice-aggregate-edges-refusal
+    edges-refusal-requires
+    returns)
