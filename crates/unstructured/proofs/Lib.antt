@@ -1,3 +1,4 @@
 pub mod Rules
 pub mod Loops
 pub mod Runs
+pub mod Batches

@@ -1,6 +1,6 @@
 -- Pairs, and the loops over them, turn by turn.
 use mathlib.Core.Path.{_≡_, refl, sym, ap, _∙_}
-use mathlib.Core.Bool.{Bool, true, false, cond}
+use mathlib.Core.Bool.{Bool, true, false, true≢false}
 use mathlib.Core.List.{List, map}
 use Prim.Native.Nat.{ℕ, zero, suc, _+_, _-_, _<_, _≤_}
 use native.Mathlib.Nat.{sub-zero}
@@ -104,9 +104,10 @@ module _ (setup : Setup) (list valueEdges : List Float) where
       auto-left g m (suc i) n _ (omega arith)
       ∙ ap (autoLeft (pairStep setup list valueEdges) g (suc i) n) ((rw (k, add-one i)) ∙ row-left g g i (suc i) n s)
 
-  pub fill-starts : (auto : Bool) (g h : ℕ → points.Point) (n m : ℕ) (s : List Float) → cond auto g h ≡ h → cond auto n m ≡ m
+  pub fill-starts : (auto : Bool) (g h : ℕ → points.Point) (n m : ℕ) (s : List Float) → (auto ≡ true → (g ≡ h) × (n ≡ m))
       → fillLeft setup list valueEdges auto g h m 0 (n - 0) s ≡ filled setup list valueEdges auto (map g (upto n)) (map h (upto m)) s
   unfolding filled
-  fill-starts false g h n m s p q = (rw (sub-zero n)) ∙ cross-left g h m 0 n s ∙ cross-is (pairStep setup list valueEdges) g h 0 n m s
-  fill-starts true g h n m s p q =
-      (rw (sub-zero n, ← p, ← q)) ∙ auto-left g n 0 n s (omega arith) ∙ auto-is (pairStep setup list valueEdges) g 0 n s
+  fill-starts false g h n m s same = (rw (sub-zero n)) ∙ cross-left g h m 0 n s ∙ cross-is (pairStep setup list valueEdges) g h 0 n m s
+  fill-starts true g h n m s same =
+      let e = same refl in
+      (rw (sub-zero n, ← e .0, ← e .1)) ∙ auto-left g n 0 n s (omega arith) ∙ auto-is (pairStep setup list valueEdges) g 0 n s

@@ -1,6 +1,6 @@
 -- The points' refusals, for each way through the code.
 use mathlib.Core.Path.{_≡_, refl, sym, ap, subst, _∙_}
-use mathlib.Core.Bool.{Bool, true, false, not, cond, _&&_, _||_, true≢false}
+use mathlib.Core.Bool.{Bool, true, false, not, _&&_, _||_, true≢false}
 use mathlib.Core.List.{List, [], _++_}
 use Prim.Native.Nat.{ℕ, _+_, _*_, _/_, _%_, _<_, _≤_}
 use native.Mathlib.Nat.{div-add-mod', mul-comm}
@@ -56,6 +56,8 @@ module _ (p v w : List Float) (set : PointSet) (k : ℕ) (q : k ≡ strideOr (se
             pub points-0 : length w ≡ set .«n_points» → 0 ≡ number
             points-0 h =
                 rw (ne-eqb (set .«n_points») 0 a, ← q, le-ltb k (set .«n_points») b, eq-eqb (length v) (length p) c, eq-eqb (length p % k) 0 d, eq-eqb (length p / k) 3 e, eq-eqb (length w) (set .«n_points») h)
+
+pub ruleset points-numbers = (points-1, points-2, points-3, points-4, points-5, points-6, points-0)
 
 -- ---- the sets of a run; r, x and y are what calls answered
 module _ (auto : Bool) (a b : UnstructuredPoints) (r : Bool) (q : r ≡ overPoints a) where
@@ -123,8 +125,8 @@ held s o h =
       weights = omega (arith, w .0);
     }
 
-pub held-sets : (auto : Bool) (a b : UnstructuredPoints) → cond auto a b ≡ b → overSets (setsFor auto a b) ≡ false → refusal (setRules (setsFor auto a b)) ≡ 0 → Held a × Held b
-held-sets true a b same o h = (held a o h, subst Held same (held a o h))
+pub held-sets : (auto : Bool) (a b : UnstructuredPoints) → (auto ≡ true → a ≡ b) → overSets (setsFor auto a b) ≡ false → refusal (setRules (setsFor auto a b)) ≡ 0 → Held a × Held b
+held-sets true a b same o h = (held a o h, subst Held (same refl) (held a o h))
 held-sets false a b same o h =
     let l = either (overPoints a) (overPoints b) o in
     let m = none-broken (pointRules a ++ pointRules b) tt (eq→eqb h) in

@@ -1,7 +1,7 @@
 -- A run's loops leave in scratch, place by place, what the definitions say; so the caller's pack is merged.
 use mathlib.Core.Path.{_≡_, refl, sym, ap, _∙_}
 use mathlib.Core.Option.{Option, none, some}
-use mathlib.Core.Bool.{Bool, true, false, cond}
+use mathlib.Core.Bool.{Bool, true, false}
 use mathlib.Core.List.{List, [], _∷_}
 use Prim.Native.Nat.{ℕ, _+_, _*_, _<_, _≤_}
 use native.Mathlib.Omega.{arith}
@@ -123,44 +123,33 @@ module _ (pa va wa : List Float) (a : PointSet) (sa : ℕ) (qa : sa ≡ strideOr
   readable h = rw qa h
 
   module _ (pb vb wb : List Float) (b : PointSet) (sb : ℕ) (qb : sb ≡ strideOr (b .«n_points») (strideOf (b .stride))) (auto : Bool) where
-    module _ (same : cond auto (pointsOf a pa va wa) (pointsOf b pb vb wb) ≡ pointsOf b pb vb wb) where
-      -- what holds of the two sets holds of what is read of them
-      of-both : {A : Type 0} (f : UnstructuredPoints → A) (t : Bool) → cond t (pointsOf a pa va wa) (pointsOf b pb vb wb) ≡ pointsOf b pb vb wb
-          → cond t (f (pointsOf a pa va wa)) (f (pointsOf b pb vb wb)) ≡ f (pointsOf b pb vb wb)
-      of-both f true e = ap f e
-      of-both f false e = refl
+    pub same-points : (auto ≡ true → pointsOf a pa va wa ≡ pointsOf b pb vb wb) → auto ≡ true → (pointIn pa va wa sa ≡ pointIn pb vb wb sb) × (a .«n_points» ≡ b .«n_points»)
+    same-points same t =
+        let at-once = ap (λ (s : UnstructuredPoints). pointIn (s .positions) (s .values) (s .weights) (points.stride s)) (same t) in
+        (ap (pointIn pa va wa) qa ∙ at-once ∙ sym (ap (pointIn pb vb wb) qb), ap (λ (s : UnstructuredPoints). s .count) (same t))
 
-      pub same-points : cond auto (pointIn pa va wa sa) (pointIn pb vb wb sb) ≡ pointIn pb vb wb sb
-      same-points = rw (qa, qb) (of-both (λ s. pointIn (s .positions) (s .values) (s .weights) (points.stride s)) auto same)
-
-      pub same-count : cond auto (a .«n_points») (b .«n_points») ≡ b .«n_points»
-      same-count = of-both (λ s. s .count) auto same
-
--- q is what the pack holds after a run of the loops from zeros
-pub driven : (auto : Bool) (pa va wa : List Float) (a : PointSet) (pb vb wb : List Float) (b : PointSet) (edges : Edges) (list : List Float) (kind : Kind) (valueEdges : List Float) (op : PairOperation)
-    (shape : Shape) (s z q : List Float) (be : BuiltEdges) (rd : Reducer) (sa sb : ℕ)
-    → q
-    ≡ addedScratch s
-    (filled (record { op = op; edges = be; reducer = rd; «n_states» = shape .«n_states» }) list valueEdges auto (pointsIn pa va wa sa (a .«n_points»)) (pointsIn pb vb wb sb (b .«n_points»))
-    (take (shape .«n_states» * shape .«state_size») z))
-    → z ≡ zeroPack → sa ≡ strideOr (a .«n_points») (strideOf (a .stride)) → sb ≡ strideOr (b .«n_points») (strideOf (b .stride)) → be ≡ builtEdges edges → rd ≡ builtReducer kind
-    → Drivable (edgesOf edges list) (kindOf kind valueEdges) shape (length s)
-    → q ≡ merged (setsRun (setsFor auto (pointsOf a pa va wa) (pointsOf b pb vb wb)) edges list kind valueEdges op shape) s
-unfolding setsRun
-driven auto pa va wa a pb vb wb b edges list kind valueEdges op shape s z q be rd sa sb h ez qa qb eb er d =
-    let x = eb ∙ built-made edges list (d .edges) in
-    let y = er ∙ reducer-made kind valueEdges (d .values) in
-    let n = bins (edgesOf edges list) * kindSize (kindOf kind valueEdges) in
-    let u = (λ i. take (d .states i * d .size i) z) ∙ lent-zeros z n (d .limit) ez in
-    let sets = setsFor auto (pointsOf a pa va wa) (pointsOf b pb vb wb) in
-    h
-    ∙ (λ i. addedScratch s
-    (filled (record { op = op; edges = x i; reducer = y i; «n_states» = d .states i }) list valueEdges auto (listed pa va wa a sa qa i) (listed pb vb wb b sb qb i) (u i)))
-    ∙ added-merged (theRun list valueEdges edges kind op shape sets) s _
-    (filled-length list valueEdges edges kind op shape sets (d .few) (d .small) auto _ _ _ ∙ length-replicate n (zeroF false)) (d .within)
-    (λ p l.
-    filled-at list valueEdges edges kind op shape sets (d .few) (d .small) auto _ _ p l
-    ∙ sym (scratch-is (theRun list valueEdges edges kind op shape sets) auto (pointsOf a pa va wa) (pointsOf b pb vb wb) p refl))
+    pub driven : (edges : Edges) (list : List Float) (kind : Kind) (valueEdges : List Float) (op : PairOperation) (shape : Shape) (s z q : List Float) (be : BuiltEdges) (rd : Reducer)
+        → Drivable (edgesOf edges list) (kindOf kind valueEdges) shape (length s) → be ≡ builtEdges edges → rd ≡ builtReducer kind → z ≡ zeroPack
+        → q
+        ≡ addedScratch s
+        (filled (record { op = op; edges = be; reducer = rd; «n_states» = shape .«n_states» }) list valueEdges auto (pointsIn pa va wa sa (a .«n_points»)) (pointsIn pb vb wb sb (b .«n_points»))
+        (take (shape .«n_states» * shape .«state_size») z))
+        → q ≡ merged (setsRun (setsFor auto (pointsOf a pa va wa) (pointsOf b pb vb wb)) edges list kind valueEdges op shape) s
+    unfolding setsRun
+    driven edges list kind valueEdges op shape s z q be rd d eb er ez h =
+        let x = eb ∙ built-made edges list (d .edges) in
+        let y = er ∙ reducer-made kind valueEdges (d .values) in
+        let n = bins (edgesOf edges list) * kindSize (kindOf kind valueEdges) in
+        let u = (λ i. take (d .states i * d .size i) z) ∙ lent-zeros z n (d .limit) ez in
+        let sets = setsFor auto (pointsOf a pa va wa) (pointsOf b pb vb wb) in
+        h
+        ∙ (λ i. addedScratch s
+        (filled (record { op = op; edges = x i; reducer = y i; «n_states» = d .states i }) list valueEdges auto (listed pa va wa a sa qa i) (listed pb vb wb b sb qb i) (u i)))
+        ∙ added-merged (theRun list valueEdges edges kind op shape sets) s _
+        (filled-length list valueEdges edges kind op shape sets (d .few) (d .small) auto _ _ _ ∙ length-replicate n (zeroF false)) (d .within)
+        (λ p l.
+        filled-at list valueEdges edges kind op shape sets (d .few) (d .small) auto _ _ p l
+        ∙ sym (scratch-is (theRun list valueEdges edges kind op shape sets) auto (pointsOf a pa va wa) (pointsOf b pb vb wb) p refl))
 
 -- scratch after the loops, then added
 pub added-filled : (s t u q : List Float) → t ≡ u → q ≡ addedScratch s t → q ≡ addedScratch s u
@@ -219,7 +208,7 @@ module _ (auto : Bool) (a b : UnstructuredPoints) (edges : Edges) (list : List F
     pub drivable : Drivable (edgesOf edges list) (kindOf kind valueEdges) shape (length s)
     drivable = all .drivable
 
-    module _ (same : cond auto a b ≡ b) where
+    module _ (same : auto ≡ true → a ≡ b) where
       pub held-first : Held a
       held-first = held-sets auto a b same (all .limits) (all .own) .0
 

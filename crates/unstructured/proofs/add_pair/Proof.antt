@@ -2,22 +2,30 @@ use Rattle.unstructured.proofs.Loops.{add-kept}
 use borrow.Author.Needs.{needs}
 use Rattle.unstructured.proofs.add_pair.Statement.{statement}
 use Rattle.unstructured.proofs.add_pair.Tie as tie
+use Rattle.unstructured.proofs.add_pair.Reads as reads
+use Rattle.unstructured.proofs.add_pair.Lts as lts
+use Rattle.reducer.proofs.consume.Reads as consume-reads
 
+-- src/lib.rt:154:20
 enum-known-pair : tie.Need-enum-known-pair
 enum-known-pair c = search needs
 
+-- src/lib.rt:157:13
 consume-requires : tie.Need-consume-requires
 consume-requires c κs = search needs
 
 enum-told : tie.Need-enum-told
 enum-told c = search needs
 
+-- src/lib.rt:150:1
 same-length : tie.Need-same-length
 same-length c = search needs
 
+-- src/lib.rt:150:1
 returns : tie.Need-returns
 returns c = search add-kept
 
+-- src/lib.rt:150:1
 returns-2 : tie.Need-returns-2
 returns-2 c = search needs
 

@@ -1,62 +1,55 @@
-use mathlib.Core.Path.{_≡_, refl}
-use Prim.Native.Nat.{_≤_, _-_}
-use native.Mathlib.Omega.{arith}
-use lib.ListN.{length}
 use borrow.Author.Needs.{needs}
-use Rattle.unstructured.specs.Pairs.{pointIn, pointsIn, filled}
-use Rattle.unstructured.proofs.Loops.{fillLeft, fill-starts, fill-turn, fill-done}
 use Rattle.unstructured.proofs.fill.Statement.{statement}
 use Rattle.unstructured.proofs.fill.Tie as tie
+use Rattle.unstructured.proofs.fill.Reads as reads
+use Rattle.unstructured.proofs.fill.Lts as lts
+use Rattle.unstructured.proofs.fill_rows.Reads as fill-rows-reads
+use Rattle.unstructured.proofs.fill_tabled.Reads as fill-tabled-reads
+use Rattle.unstructured.proofs.is_usable.Reads as is-usable-reads
+use Rattle.unstructured.proofs.table_pays.Reads as table-pays-reads
 
-abbrev Inv-loop : tie.InvT-loop
-Inv-loop auto setup list value-edges a-positions a-values a-weights a-stride a-n b-positions b-values b-weights b-stride b-n scratch₀ i₀ scratch i =
-    (length scratch ≡ length scratch₀)
-    × (fillLeft setup list value-edges auto (pointIn a-positions a-values a-weights a-stride) (pointIn b-positions b-values b-weights b-stride) b-n i (a-n - i) scratch
-    ≡ filled setup list value-edges auto (pointsIn a-positions a-values a-weights a-stride a-n) (pointsIn b-positions b-values b-weights b-stride b-n) scratch₀)
+-- src/lib.rt:897:8
+table-pays-requires : tie.Need-table-pays-requires
+table-pays-requires c κs = search needs
 
-abbrev μ-loop : tie.MeasureT-loop
-μ-loop auto setup list value-edges a-positions a-values a-weights a-stride a-n b-positions b-values b-weights b-stride b-n scratch₀ i₀ scratch i = a-n - i
+-- src/lib.rt:899:12
+is-usable-requires : tie.Need-is-usable-requires
+is-usable-requires c κs = search needs
 
-loop-holds : tie.Need-loop-holds Inv-loop μ-loop
-unfolding pointsIn
-loop-holds c = (refl, search fill-starts)
+-- src/lib.rt:900:13
+fill-tabled-requires : tie.Need-fill-tabled-requires
+fill-tabled-requires c κs = let s = c .before .before .before .before .before .before .before .before .before .before .before .before .before .before in
+    (c .before .before .is-usable .ensures (c .before .if2 .taken), (s .pre .0, (s .pre .1 .0, s .pre .1 .1)))
 
-point-at-requires : tie.Need-point-at-requires Inv-loop μ-loop
-point-at-requires c κs = search needs
-
-first-partner-requires : tie.Need-first-partner-requires Inv-loop μ-loop
-first-partner-requires c κs = search needs
-
-add-row-requires : tie.Need-add-row-requires Inv-loop μ-loop
-add-row-requires c κs = search needs
-
-add-i : tie.Need-add-i Inv-loop μ-loop
-add-i c = search needs
-
-loop-less : tie.Need-loop-less Inv-loop μ-loop
-loop-less c = search needs
-
-loop-again : tie.Need-loop-again Inv-loop μ-loop
-loop-again c = (search needs, search fill-turn)
-
-same-length : tie.Need-same-length Inv-loop μ-loop
+-- src/lib.rt:917:13
+same-length : tie.Need-same-length
 same-length c = search needs
 
-returns : tie.Need-returns Inv-loop μ-loop
-returns c = search fill-done
+-- src/lib.rt:917:13
+returns : tie.Need-returns
+returns c = search needs
+
+-- src/lib.rt:920:5
+fill-rows-requires : tie.Need-fill-rows-requires
+fill-rows-requires c κs = search needs
+
+-- src/lib.rt:873:1
+same-length-2 : tie.Need-same-length-2
+same-length-2 c = search needs
+
+-- src/lib.rt:873:1
+returns-2 : tie.Need-returns-2
+returns-2 c = search needs
 
 pub fill-spec : {M : Type 1} → statement M
 fill-spec =
     tie.close
     (tie.spec
-    Inv-loop
-    μ-loop
-    loop-holds
-    point-at-requires
-    first-partner-requires
-    add-row-requires
-    add-i
-    loop-less
-    loop-again
+    table-pays-requires
+    is-usable-requires
+    fill-tabled-requires
     same-length
-    returns)
+    returns
+    fill-rows-requires
+    same-length-2
+    returns-2)

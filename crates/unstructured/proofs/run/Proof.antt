@@ -2,19 +2,28 @@ use Rattle.unstructured.proofs.Runs.{answer-refused, answer-done, stays
 use borrow.Author.Needs.{needs}
 use Rattle.unstructured.proofs.run.Statement.{statement}
 use Rattle.unstructured.proofs.run.Tie as tie
+use Rattle.unstructured.proofs.run.Reads as reads
+use Rattle.unstructured.proofs.run.Lts as lts
+use Rattle.unstructured.proofs.drive.Reads as drive-reads
+use Rattle.unstructured.proofs.run_refusal.Reads as run-refusal-reads
 
+-- src/lib.rt:467:9
 run-refusal-requires : tie.Need-run-refusal-requires
 run-refusal-requires c κs = search needs
 
+-- src/lib.rt:485:9
 returns : tie.Need-returns
 returns c = (search answer-refused, search stays)
 
+-- src/lib.rt:487:5
 drive-requires : tie.Need-drive-requires
 drive-requires c κs = (search held-first, (search held-second, (search needs, search drivable)))
 
+-- src/lib.rt:441:1
 same-length : tie.Need-same-length
 same-length c = search needs
 
+-- src/lib.rt:441:1
 returns-2 : tie.Need-returns-2
 returns-2 c = (search answer-done, search done)
 
