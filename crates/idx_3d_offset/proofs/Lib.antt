@@ -1,0 +1,4 @@
+pub mod Signed
+pub mod Ranges
+pub mod Table
+pub mod Sequence
