@@ -1,0 +1,9 @@
+pub mod Refusals
+pub mod Ready
+pub mod Distance
+pub mod Loops
+pub mod Cells
+pub mod Merge
+pub mod Walk
+pub mod Placewise
+pub mod Runs

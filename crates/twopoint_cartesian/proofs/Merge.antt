@@ -1,0 +1,104 @@
+-- A state of zeros, its merge into its bin, and one offset's part of a run. Assumes nothing.
+use mathlib.Core.Path.{_≡_, refl, sym, ap, _∙_}
+use mathlib.Core.Option.{Option, none, some, Option·some-injective, Option·none-ne-some}
+use mathlib.Core.Bool.{Bool, true, false, cond}
+use mathlib.Core.List.{List, [], _∷_, _++_, map}
+use Prim.Native.Nat.{ℕ, zero, suc, _+_, _-_, _*_, _<_, _≤_}
+use native.Mathlib.Nat.{sub-zero, suc-mul, mul-comm, mul-le-mul-right}
+use native.Mathlib.Omega.{arith}
+use lib.Dec.{T, ltb, ltb→lt}
+use lib.ListN.{length, set, drop, replicate, length-replicate, drop-of-length-le}
+use lib.Ieee.{Float, binary64, add}
+use Rattle.definitions.specs.Lists.{at, range, upto, overwritten}
+use Rattle.definitions.specs.Floats.{zeroF}
+use Rattle.definitions.specs.Bins.{below}
+use Rattle.definitions.specs.Blocks as blocks
+use Rattle.definitions.specs.Blocks.{CartesianBlock, Cell, cellPairs, distanceSquared}
+use Rattle.definitions.specs.Run.{place}
+use Rattle.laws.proofs.Loops.{loopLeft}
+use Rattle.laws.proofs.Places.{foldPack, bump, overwritten-turn}
+use Rattle.bins.specs.declared.BinIndex.{BinIndex}
+use Rattle.bins.specs.declared.BinIndex.the-variants.{At, None}
+use Rattle.bins.specs.Answers.{indexOf}
+use Rattle.reducer.proofs.Placewise.{consumed-length}
+use Rattle.reducer.specs.Consume.{builtBins, builtFind, builtBin}
+use Rattle.twopoint_cartesian.specs.declared.Setup.{Setup}
+use Rattle.twopoint_cartesian.specs.Cells.{fresh, cellsAdded, pairStep, stateMerged, Room, Roomy, mergedIn, offsetCells, offsetAdded}
+use Rattle.twopoint_cartesian.proofs.Loops.{left-turn, left-done}
+
+-- ---- zeros
+zeros : (k n : ℕ) → map (λ p. zeroF false) (range k n) ≡ replicate n (zeroF false)
+zeros k zero = refl
+zeros k (suc n) = ap (λ (l : List Float). zeroF false ∷ l) (zeros (suc k) n)
+
+nothing : (l : List Float) → l ++ [] ≡ l
+nothing [] = refl
+nothing (x ∷ l) = ap (λ (r : List Float). x ∷ r) (nothing l)
+
+module _ (s : List Float) where
+  pub clear-turn : (e : ℕ) (q : List Float) → e < length s → q ≡ overwritten e (λ p. zeroF false) s → set q e (zeroF false) ≡ overwritten (e + 1) (λ p. zeroF false) s
+  clear-turn e q h inv = overwritten-turn (λ p. zeroF false) e s q h inv
+
+  pub clear-done : (e : ℕ) (q : List Float) → length s ≤ e → e ≤ length s → q ≡ overwritten e (λ p. zeroF false) s → q ≡ fresh (length s)
+  unfolding fresh
+  clear-done e q h k inv =
+      let d : e ≡ length s = omega arith in
+      inv ∙ ap (λ (n : ℕ). overwritten n (λ p. zeroF false) s) d
+      ∙ ap (λ (l : List Float). map (λ p. zeroF false) (upto (length s)) ++ l) (drop-of-length-le s {i = length s} (omega arith)) ∙ nothing (map (λ p. zeroF false) (upto (length s))) ∙ zeros 0 (length s)
+
+-- ---- the merge
+pub merge-place : (n b size len e : ℕ) → Room n b size len → e < size → place n e b < len
+merge-place n b size len e r h = omega (arith, r .state, r .pack, suc-mul e n, mul-comm size n, mul-le-mul-right n h)
+
+module _ (n b : ℕ) (state : List Float) where
+  pub merge-start : (s : List Float) → stateMerged n b state 0 (length state - 0) s ≡ stateMerged n b state 0 (length state) s
+  merge-start s = ap (λ (m : ℕ). stateMerged n b state 0 m s) (sub-zero (length state))
+
+  module _ (z : List Float) (e : ℕ) (s : List Float) where
+    pub merge-turn : e < length state → stateMerged n b state e (length state - e) s ≡ z → stateMerged n b state (e + 1) (length state - (e + 1)) (bump (place n e b) (at state e) s) ≡ z
+    unfolding stateMerged
+    merge-turn h = left-turn (λ e s. bump (place n e b) (at state e) s) (length state) z e s (bump (place n e b) (at state e) s) h refl
+
+    pub merge-done : length state ≤ e → stateMerged n b state e (length state - e) s ≡ z → s ≡ z
+    unfolding stateMerged
+    merge-done = left-done (λ e s. bump (place n e b) (at state e) s) (length state) z e s
+
+-- ---- one offset, by what the lookup answered
+below-found : (n : ℕ) (o : Option ℕ) (b : ℕ) → below n o ≡ some b → b < n
+below-found n none b e = absurd (Option·none-ne-some b e)
+below-found n (some i) b e = go (ltb i n) (ltb→lt i n) e
+  where
+    go : (t : Bool) → (T t → i < n) → cond t (some i) none ≡ some b → b < n
+    go true h p = rw (Option·some-injective i b p) at (h tt)
+    go false h p = absurd (Option·none-ne-some b p)
+
+-- the cells keep the state's length
+pub fold-length : {A : Type 0} (upd : A → List Float → List Float) → ((x : A) (s : List Float) → length (upd x s) ≡ length s) → (l : List A) (s : List Float) → length (foldPack upd l s) ≡ length s
+fold-length upd keeps [] s = refl
+fold-length upd keeps (x ∷ l) s = fold-length upd keeps l (upd x s) ∙ keeps x s
+
+module _ (setup : Setup) (valueEdges : List Float) (a b : CartesianBlock) where
+  pub pair-length : (q : Cell × Cell) (s : List Float) → length (pairStep setup valueEdges a b q s) ≡ length s
+  unfolding pairStep cellsAdded
+  pair-length q s = consumed-length valueEdges 1 0 _ s (setup .reducer)
+
+  pub cells-length : (d : blocks.Idx3DOffset) (n : ℕ) → length (offsetCells setup valueEdges a b d (fresh n)) ≡ n
+  unfolding offsetCells fresh
+  cells-length d n = fold-length (pairStep setup valueEdges a b) pair-length (cellPairs a b d) (replicate n (zeroF false)) ∙ length-replicate n (zeroF false)
+
+module _ (setup : Setup) (list valueEdges : List Float) (width : blocks.CellWidth) (a b : CartesianBlock) (size : ℕ) (d : blocks.Idx3DOffset)
+    (r : BinIndex) (h : indexOf r ≡ builtBin (setup .edges) list (distanceSquared width a b d)) where
+  pub bin-room : (bin len : ℕ) (state : List Float) → r ≡ At bin → state ≡ offsetCells setup valueEdges a b d (fresh size) → Roomy setup list size len → Room (setup .«n_states») bin (length state) len
+  unfolding builtBin
+  bin-room bin len state e f k =
+      let l = below-found (builtBins (setup .edges) (length list)) (builtFind (setup .edges) list (distanceSquared width a b d)) bin (sym h ∙ ap indexOf e) in
+      rw (ap length f ∙ cells-length setup valueEdges a b d size) (record { few = k .few; small = k .small; state = omega (arith, k .states); pack = k .pack })
+
+  pub offset-kept : (bin : ℕ) (state s q : List Float) → r ≡ At bin → state ≡ offsetCells setup valueEdges a b d (fresh size) → q ≡ stateMerged (setup .«n_states») bin state 0 (length state) s
+      → q ≡ offsetAdded setup list valueEdges width a b size d s
+  unfolding offsetAdded
+  offset-kept bin state s q e f g = g ∙ (λ t. mergedIn (some bin) (setup .«n_states») (f t) s) ∙ λ t. mergedIn ((sym (ap indexOf e) ∙ h) t) (setup .«n_states») (offsetCells setup valueEdges a b d (fresh size)) s
+
+  pub offset-dropped : (s : List Float) → r ≡ None → s ≡ offsetAdded setup list valueEdges width a b size d s
+  unfolding offsetAdded
+  offset-dropped s e = λ t. mergedIn ((sym (ap indexOf e) ∙ h) t) (setup .«n_states») (offsetCells setup valueEdges a b d (fresh size)) s

@@ -1,0 +1,194 @@
+-- A run: the number that it answers, and that the pack of an accepted one is merged. Assumes nothing.
+use mathlib.Core.Path.{_≡_, refl, sym, ap, _∙_}
+use mathlib.Core.Bool.{Bool, true, false, cond}
+use mathlib.Core.Option.{none, some}
+use mathlib.Core.List.{List, [], _∷_}
+use Prim.Native.Nat.{ℕ, _+_, _*_, _<_, _≤_}
+use native.Mathlib.Omega.{arith}
+use lib.ListN.{length, take, replicate, length-replicate}
+use lib.Seq.{length-take-le}
+use lib.Ieee.{Float}
+use mir.Syntax.{w64}
+use mir.Val.{Fits}
+use Rattle.definitions.specs.Lists.{foldAt}
+use Rattle.definitions.specs.Floats.{zeroF}
+use Rattle.definitions.specs.Bins as definitions
+use Rattle.definitions.specs.Bins.{bins}
+use Rattle.definitions.specs.Blocks as blocks
+use Rattle.definitions.specs.Blocks.{CartesianBlock}
+use Rattle.definitions.specs.Reducer as kinds
+use Rattle.definitions.specs.Reducer.{kindSize}
+use Rattle.definitions.specs.Run as run
+use Rattle.definitions.specs.Run.{Run, offsetAt, scratch, merged}
+use Rattle.definitions.specs.Rules.{refusal, overSets, setRules, pairRules, runRules, step, met}
+use Rattle.reducer.specs.declared.Edges.{Edges}
+use Rattle.reducer.specs.declared.Kind.{Kind}
+use Rattle.reducer.specs.declared.PairOperation.{PairOperation}
+use Rattle.reducer.specs.declared.BuiltEdges.{BuiltEdges}
+use Rattle.reducer.specs.declared.Reducer.{Reducer}
+use Rattle.reducer.specs.Readings.{opOf, edgesOf, kindOf}
+use Rattle.reducer.specs.Consume.{builtBins}
+use Rattle.reducer.proofs.Placewise.{made-bins}
+use Rattle.parallel_serial.specs.declared.Shape.{Shape}
+use Rattle.parallel_serial.specs.Drive as drive
+use Rattle.parallel_serial.specs.Drive.{zeroPack, addedScratch, builtEdges, builtReducer, runNumber}
+use Rattle.parallel_serial.proofs.Refusals.{run-number, run-limit, Drivable, Accepted, accepted}
+use Rattle.parallel_serial.proofs.Built.{built-made, reducer-made}
+use Rattle.parallel_serial.proofs.Scratch.{lent-length, lent-zeros, added-merged, step-refused, step-done, run-refused, run-done}
+use Rattle.idx_3d_offset.specs.declared.Axes.{Axes}
+use Rattle.idx_3d_offset.specs.Offsets.{autoSeq}
+use Rattle.idx_3d_offset.proofs.Sequence.{cross-all, auto-fold}
+use Rattle.twopoint_cartesian.specs.declared.Block.{Block}
+use Rattle.twopoint_cartesian.specs.declared.CellWidth.{CellWidth}
+use Rattle.twopoint_cartesian.specs.declared.Setup.{Setup}
+use Rattle.twopoint_cartesian.specs.Readings.{blockOf, widthOf, axesOf, setsRun}
+use Rattle.twopoint_cartesian.specs.Cells.{Ready, Roomy, zeroState, seqFor, offsetsAdded}
+use Rattle.twopoint_cartesian.specs.Refusals.{setsFor, noWidth, setsNumber}
+use Rattle.twopoint_cartesian.proofs.Ready.{ready-sets}
+use Rattle.twopoint_cartesian.proofs.Placewise.{theRun, theSetup, filled-length, filled-at}
+
+-- ---- the number that a run answers; r, n and m are what calls answered
+module _ (auto : Bool) (width : CellWidth) (a b : Block) (a0 a1 a2 aw b0 b1 b2 bw : List Float) where
+  abbrev sets : run.Sets
+  sets = setsFor auto (widthOf width) (blockOf a a0 a1 a2 aw) (blockOf b b0 b1 b2 bw)
+
+  -- the limits do not read the slices and the widths, and neither do the rules on pairs
+  over-same : overSets (setsFor auto noWidth (blockOf a [] [] [] []) (blockOf b [] [] [] [])) ≡ overSets sets
+  over-same = go auto
+    where
+      go : (t : Bool) → overSets (setsFor t noWidth (blockOf a [] [] [] []) (blockOf b [] [] [] [])) ≡ overSets (setsFor t (widthOf width) (blockOf a a0 a1 a2 aw) (blockOf b b0 b1 b2 bw))
+      go true = refl
+      go false = refl
+
+  pairs-same : refusal (pairRules (setsFor auto noWidth (blockOf a [] [] [] []) (blockOf b [] [] [] []))) ≡ refusal (pairRules sets)
+  pairs-same = go auto
+    where
+      go : (t : Bool) → refusal (pairRules (setsFor t noWidth (blockOf a [] [] [] []) (blockOf b [] [] [] []))) ≡ refusal (pairRules (setsFor t (widthOf width) (blockOf a a0 a1 a2 aw) (blockOf b b0 b1 b2 bw)))
+      go true = refl
+      go false = refl
+
+  module _ (e : definitions.Edges) (k : kinds.Kind) (shape : Shape) (len : ℕ) (r : Bool) (q : r ≡ overSets (setsFor auto noWidth (blockOf a [] [] [] []) (blockOf b [] [] [] []))) where
+    pub number-7 : r ≡ true → 7 ≡ setsNumber sets e k shape len
+    unfolding setsNumber
+    number-7 t = sym (run-limit (overSets sets) (refusal (setRules sets)) (refusal (pairRules sets)) e k shape len (sym over-same ∙ sym q ∙ t))
+
+    pub number-is : r ≡ false → (n m x : ℕ) → n ≡ refusal (setRules sets) → m ≡ refusal (pairRules (setsFor auto noWidth (blockOf a [] [] [] []) (blockOf b [] [] [] []))) → x ≡ runNumber false n m e k shape len
+        → x ≡ setsNumber sets e k shape len
+    unfolding setsNumber
+    number-is t n m x p o h = h ∙ λ i. runNumber ((sym t ∙ q ∙ over-same) i) (p i) ((o ∙ pairs-same) i) e k shape len
+
+-- ---- what follows of it
+module _ (auto : Bool) (width : blocks.CellWidth) (a b : CartesianBlock) (edges : Edges) (list : List Float) (kind : Kind) (valueEdges : List Float) (shape : Shape) (s : List Float) (x : ℕ)
+    (h : x ≡ setsNumber (setsFor auto width a b) (edgesOf edges list) (kindOf kind valueEdges) shape (length s)) where
+  module _ (op : PairOperation) where
+    abbrev this : Run
+    this = setsRun (setsFor auto width a b) edges list kind valueEdges op shape
+
+    own-number : x ≡ refusal (runRules this (length s))
+    unfolding setsNumber setsRun
+    own-number = h ∙ run-number (setsFor auto width a b) (opOf op) (edgesOf edges list) (kindOf kind valueEdges) shape (length s)
+
+    pub stays : (x ≡ 0 → ⊥) → s ≡ step this s
+    stays n = step-refused this s x own-number n
+
+    pub answer-refused : (x ≡ 0 → ⊥) → some x ≡ met (refusal (runRules this (length s)))
+    answer-refused n = run-refused this s x own-number n
+
+    pub answer-done : x ≡ 0 → none ≡ met (refusal (runRules this (length s)))
+    answer-done z = run-done this s x own-number z
+
+    pub done : x ≡ 0 → (q : List Float) → q ≡ merged this s → q ≡ step this s
+    done z q e = step-done this s x own-number z q e
+
+  module _ (z : x ≡ 0) where
+    all : Accepted (overSets (setsFor auto width a b)) (refusal (setRules (setsFor auto width a b))) (refusal (pairRules (setsFor auto width a b))) (edgesOf edges list) (kindOf kind valueEdges) shape (length s)
+    unfolding setsNumber
+    all = accepted (overSets (setsFor auto width a b)) (refusal (setRules (setsFor auto width a b))) (refusal (pairRules (setsFor auto width a b))) (edgesOf edges list) (kindOf kind valueEdges) shape (length s) (sym h ∙ z)
+
+    pub drivable : Drivable (edgesOf edges list) (kindOf kind valueEdges) shape (length s)
+    drivable = all .drivable
+
+    module _ (same : cond auto a b ≡ b) where
+      pub ready-first : Ready a
+      ready-first = ready-sets auto width a b same (all .limits) (all .own) .0
+
+      pub ready-second : Ready b
+      ready-second = ready-sets auto width a b same (all .limits) (all .own) .1
+
+-- ---- the parts that are lent
+module _ (e : definitions.Edges) (k : kinds.Kind) (shape : Shape) (len : ℕ) (d : Drivable e k shape len) where
+  pub used-limit : shape .«n_states» * shape .«state_size» ≤ 4096
+  used-limit = rw (d .states, d .size) (d .limit)
+
+  pub used-fits : Fits w64 (shape .«n_states» * shape .«state_size»)
+  used-fits = record { fits = omega (arith, used-limit) }
+
+  module _ (z : List Float) (h : z ≡ zeroPack) where
+    pub used-lent : shape .«n_states» * shape .«state_size» ≡ length (take (shape .«n_states» * shape .«state_size») z)
+    used-lent = lent-length z (shape .«n_states» * shape .«state_size») used-limit h
+
+    pub used-part : shape .«n_states» * shape .«state_size» ≤ length z
+    unfolding drive.zeroPack
+    used-part = omega (arith, used-limit, ap length h, length-replicate 4096 (zeroF false))
+
+  pub state-lent : (z : List Float) → z ≡ zeroState → shape .«state_size» ≡ length (take (shape .«state_size») z)
+  unfolding zeroState
+  state-lent z h = sym (length-take-le (shape .«state_size») z (omega (arith, d .size, d .small, ap length h, length-replicate 256 (zeroF false))))
+
+pub same-axes : (auto : Bool) (a b : CartesianBlock) → cond auto a b ≡ b → auto ≡ true → _≡_ {A = Axes} (record { z = a .nz; y = a .ny; x = a .nx }) (record { z = b .nz; y = b .ny; x = b .nx })
+same-axes auto a b s t = ap (λ (c : CartesianBlock). record { z = c .nz; y = c .ny; x = c .nx }) (rw t at s)
+
+pub roomy : (edges : Edges) (list : List Float) (kind : Kind) (valueEdges : List Float) (op : PairOperation) (shape : Shape) (len : ℕ) (be : BuiltEdges) (rd : Reducer) (y z : List Float)
+    → Drivable (edgesOf edges list) (kindOf kind valueEdges) shape len → be ≡ builtEdges edges → y ≡ zeroState → z ≡ zeroPack
+    → Roomy (record { op = op; edges = be; reducer = rd; «n_states» = shape .«n_states» }) list (length (take (shape .«state_size») y)) (length (take (shape .«n_states» * shape .«state_size») z))
+roomy edges list kind valueEdges op shape len be rd y z d eb ey ez =
+    let n = state-lent (edgesOf edges list) (kindOf kind valueEdges) shape len d y ey in
+    let u = used-lent (edgesOf edges list) (kindOf kind valueEdges) shape len d z ez in
+    rw (sym n, sym u) (record {
+      states = d .states ∙ sym (made-bins list edges) ∙ ap (λ (x : BuiltEdges). builtBins x (length list)) (sym (eb ∙ built-made edges list (d .edges)));
+      few = omega (arith, d .states, d .few);
+      small = omega (arith, d .size, d .small);
+      pack = omega arith;
+    })
+
+-- ---- scratch, by the offsets of the run
+pub added-filled : (s t u q : List Float) → t ≡ u → q ≡ addedScratch s t → q ≡ addedScratch s u
+added-filled s t u q e h = h ∙ ap (addedScratch s) e
+
+module _ (r : Run) (width : blocks.CellWidth) (a b : CartesianBlock) (ha : Ready a) (hb : Ready b) where
+  scratch-is : (auto : Bool) (p : ℕ) → cond auto a b ≡ b → r .sets ≡ setsFor auto width a b
+      → foldAt (offsetAt r p width a b) (zeroF false) (seqFor auto (record { z = a .nz; y = a .ny; x = a .nx }) (record { z = b .nz; y = b .ny; x = b .nx })) ≡ scratch r p
+  unfolding run.scratch run.scratchOf
+  scratch-is true p s e =
+      (λ t. foldAt (offsetAt r p width a (sym s t)) (zeroF false) (autoSeq (record { z = a .nz; y = a .ny; x = a .nx })))
+      ∙ sym (auto-fold (record { z = a .nz; y = a .ny; x = a .nx }) (ha .axes) (offsetAt r p width a a) (zeroF false)) ∙ sym (ap (run.scratchOf r p) e)
+  scratch-is false p s e =
+      ap (foldAt (offsetAt r p width a b) (zeroF false)) (cross-all (record { z = a .nz; y = a .ny; x = a .nx }) (record { z = b .nz; y = b .ny; x = b .nx }) (ha .axes) (hb .axes)) ∙ sym (ap (run.scratchOf r p) e)
+
+-- q is what the pack holds after the walk from zeros
+pub driven : (auto : Bool) (a0 a1 a2 aw : List Float) (a : Block) (b0 b1 b2 bw : List Float) (b : Block) (width : CellWidth) (edges : Edges) (list : List Float) (kind : Kind) (valueEdges : List Float)
+    (op : PairOperation) (shape : Shape) (s y z q : List Float) (be : BuiltEdges) (rd : Reducer)
+    → q
+    ≡ addedScratch s
+    (offsetsAdded (record { op = op; edges = be; reducer = rd; «n_states» = shape .«n_states» }) list valueEdges (widthOf width) (blockOf a a0 a1 a2 aw) (blockOf b b0 b1 b2 bw) (length (take (shape .«state_size») y))
+    (seqFor auto (axesOf a) (axesOf b)) (take (shape .«n_states» * shape .«state_size») z))
+    → y ≡ zeroState → z ≡ zeroPack → be ≡ builtEdges edges → rd ≡ builtReducer kind → Ready (blockOf a a0 a1 a2 aw) → Ready (blockOf b b0 b1 b2 bw) → cond auto (blockOf a a0 a1 a2 aw) (blockOf b b0 b1 b2 bw) ≡ blockOf b b0 b1 b2 bw
+    → Drivable (edgesOf edges list) (kindOf kind valueEdges) shape (length s)
+    → q ≡ merged (setsRun (setsFor auto (widthOf width) (blockOf a a0 a1 a2 aw) (blockOf b b0 b1 b2 bw)) edges list kind valueEdges op shape) s
+unfolding setsRun
+driven auto a0 a1 a2 aw a b0 b1 b2 bw b width edges list kind valueEdges op shape s y z q be rd h ey ez eb er ha hb same d =
+    let A = blockOf a a0 a1 a2 aw in
+    let B = blockOf b b0 b1 b2 bw in
+    let w = widthOf width in
+    let l = seqFor auto (axesOf a) (axesOf b) in
+    let f = eb ∙ built-made edges list (d .edges) in
+    let g = er ∙ reducer-made kind valueEdges (d .values) in
+    let n = bins (edgesOf edges list) * kindSize (kindOf kind valueEdges) in
+    let u = (λ i. take (d .states i * d .size i) z) ∙ lent-zeros z n (d .limit) ez in
+    let m = sym (state-lent (edgesOf edges list) (kindOf kind valueEdges) shape (length s) d y ey) ∙ d .size in
+    let sets = setsFor auto w A B in
+    h
+    ∙ (λ i. addedScratch s (offsetsAdded (record { op = op; edges = f i; reducer = g i; «n_states» = d .states i }) list valueEdges w A B (m i) l (u i)))
+    ∙ added-merged (theRun list valueEdges edges kind op shape sets) s _
+    (filled-length list valueEdges edges kind op shape sets (d .few) (d .small) w A B l _ ∙ length-replicate n (zeroF false)) (d .within)
+    (λ p k. filled-at list valueEdges edges kind op shape sets (d .few) (d .small) w A B l p k ∙ scratch-is (theRun list valueEdges edges kind op shape sets) w A B ha hb auto p same refl)

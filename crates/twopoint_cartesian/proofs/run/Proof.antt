@@ -1,0 +1,34 @@
+use Rattle.twopoint_cartesian.proofs.Runs.{answer-refused, stays, answer-done, done, drivable, ready-first, ready-second}
+use borrow.Author.Needs.{needs}
+use Rattle.twopoint_cartesian.proofs.run.Statement.{statement}
+use Rattle.twopoint_cartesian.proofs.run.Tie as tie
+use Rattle.twopoint_cartesian.proofs.run.Reads as reads
+use Rattle.twopoint_cartesian.proofs.run.Lts as lts
+use Rattle.twopoint_cartesian.proofs.drive.Reads as drive-reads
+use Rattle.twopoint_cartesian.proofs.run_refusal.Reads as run-refusal-reads
+
+-- src/lib.rt:848:9
+run-refusal-requires : tie.Need-run-refusal-requires
+run-refusal-requires c κs = search needs
+
+-- src/lib.rt:853:9
+returns : tie.Need-returns
+returns c =
+    (search answer-refused, search stays)
+
+-- src/lib.rt:855:5
+drive-requires : tie.Need-drive-requires
+drive-requires c κs =
+    (search ready-first, (search ready-second, (search needs, search drivable)))
+
+-- src/lib.rt:821:1
+same-length : tie.Need-same-length
+same-length c = search needs
+
+-- src/lib.rt:821:1
+returns-2 : tie.Need-returns-2
+returns-2 c =
+    (search answer-done, search done)
+
+pub run-spec : {M : Type 1} → statement M
+run-spec = tie.close (tie.spec run-refusal-requires returns drive-requires same-length returns-2)

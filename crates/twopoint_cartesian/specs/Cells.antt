@@ -1,0 +1,179 @@
+-- What the private functions ask and promise: the cells of an offset into a state of their own, its merge into its bin, and the walk over the offsets, as updates of stores.
+use mathlib.Core.Path.{_≡_}
+use mathlib.Core.Option.{Option, none, some}
+use mathlib.Core.List.{List}
+use mathlib.Core.Bool.{Bool, true, false}
+use Prim.Native.Nat.{ℕ, _+_, _-_, _*_, _≤_, _<_}
+use lib.ListN.{length, replicate, getElem?}
+use lib.IntN.{ℤ, natAbs}
+use lib.Ieee.{Float}
+use Rattle.definitions.specs.Lists.{at, upto}
+use Rattle.definitions.specs.Floats.{zeroF}
+use Rattle.definitions.specs.Points.{Reading}
+use Rattle.definitions.specs.Blocks.{CartesianBlock, Cell, cell, cellIndex, requiredLength, startA, startB, count, cellPairs, distanceSquared}
+use Rattle.definitions.specs.Blocks as Blocks
+use Rattle.definitions.specs.Reducer.{datumOf}
+use Rattle.definitions.specs.Run.{place}
+use Rattle.laws.proofs.Loops.{loopLeft}
+use Rattle.laws.proofs.Places.{foldPack, bump}
+use Rattle.reducer.specs.Readings.{opOf}
+use Rattle.reducer.specs.Consume.{builtBins, builtBin, consumed}
+use Rattle.idx_3d_offset.specs.declared.Axes.{Axes}
+use Rattle.idx_3d_offset.specs.Offsets.{Walkable, crossSeq, autoSeq}
+use Rattle.twopoint_cartesian.specs.declared.Block.{Block}
+use Rattle.twopoint_cartesian.specs.declared.CellWidth.{CellWidth}
+use Rattle.twopoint_cartesian.specs.declared.Setup.{Setup}
+use Rattle.twopoint_cartesian.specs.Readings.{blockOf, widthOf, axesOf}
+
+-- a block's three components and its weights
+pub record Fields : Type 0 where
+  pub comp0 : List Float
+  pub comp1 : List Float
+  pub comp2 : List Float
+  pub weights : List Float
+
+abbrev pub fields : List Float → List Float → List Float → List Float → Fields
+fields c0 c1 c2 w = record { comp0 = c0; comp1 = c1; comp2 = c2; weights = w }
+
+abbrev pub readingIn : Fields → ℕ → Reading
+readingIn f i = record { v0 = at (f .comp0) i; v1 = at (f .comp1) i; v2 = at (f .comp2) i; w = at (f .weights) i }
+
+-- ---- what slices hold
+-- cell i
+pub record Holds (f : Fields) (i : ℕ) : Type 0 where
+  pub in0 : i < length (f .comp0)
+  pub in1 : i < length (f .comp1)
+  pub in2 : i < length (f .comp2)
+  pub in-w : i < length (f .weights)
+
+-- n cells from i on
+pub record RowFits (f : Fields) (i n : ℕ) : Type 0 where
+  pub in0 : i + n ≤ length (f .comp0)
+  pub in1 : i + n ≤ length (f .comp1)
+  pub in2 : i + n ≤ length (f .comp2)
+  pub in-w : i + n ≤ length (f .weights)
+
+-- k rows of n cells, s apart
+pub record PlaneFits (f : Fields) (i s n k : ℕ) : Type 0 where
+  pub start : i ≤ length (f .weights)
+  pub row : (y : ℕ) → y < k → RowFits f (i + y * s) n
+
+-- l planes, t apart
+pub record BlockFits (f : Fields) (i s t n k l : ℕ) : Type 0 where
+  pub plane : (z : ℕ) → z < l → PlaneFits f (i + z * t) s n k
+
+-- a global offset or an offset between cells: no sum of three is near the machine's limit
+pub record Near (z : ℤ) : Type 0 where
+  pub near : natAbs z ≤ 1_000_000
+
+pub record AllNear (z y x : ℤ) : Type 0 where
+  pub z-near : Near z
+  pub y-near : Near y
+  pub x-near : Near x
+
+-- the numbers of an accepted block, and its slices
+pub record Ready (b : CartesianBlock) : Type 0 where
+  pub axes : Walkable (record { z = b .nz; y = b .ny; x = b .nx })
+  pub z-stride : b .sz ≤ 65536
+  pub y-stride : b .sy ≤ 65536
+  pub x-stride : b .sx ≡ 1
+  pub room : requiredLength b ≤ length (b .weights)
+  pub in0 : length (b .comp0) ≡ length (b .weights)
+  pub in1 : length (b .comp1) ≡ length (b .weights)
+  pub in2 : length (b .comp2) ≡ length (b .weights)
+  pub global : AllNear (b .gz) (b .gy) (b .gx)
+
+-- a cell, and strides, of which its place can be reckoned
+pub record Placed (sz sy sx : ℕ) (c : Cell) : Type 0 where
+  pub z-stride : sz ≤ 65536
+  pub y-stride : sy ≤ 65536
+  pub x-stride : sx ≤ 65536
+  pub z-index : c .z < 64
+  pub y-index : c .y < 64
+  pub x-index : c .x < 64
+
+-- ---- the cells of an offset
+module _ (setup : Setup) (valueEdges : List Float) (a b : Fields) where
+  -- cell i of a with cell j of b, into a state
+  unfoldable pub cellsAdded : ℕ → ℕ → List Float → List Float
+  cellsAdded i j s = consumed (setup .reducer) valueEdges 1 0 (datumOf (opOf (setup .op)) (readingIn a i) (readingIn b j)) s
+
+  -- the cells from x on, n of them, of the rows that start at i and j
+  unfoldable pub rowAdded : ℕ → ℕ → ℕ → ℕ → List Float → List Float
+  rowAdded i j x n s = loopLeft (λ x s. cellsAdded (i + x) (j + x) s) x n s
+
+  -- the rows from y on, k of them
+  unfoldable pub planeAdded : ℕ → ℕ → ℕ → ℕ → ℕ → ℕ → ℕ → List Float → List Float
+  planeAdded i j sa sb n y k s = loopLeft (λ y s. rowAdded (i + y * sa) (j + y * sb) 0 n s) y k s
+
+  -- the planes from z on, l of them
+  unfoldable pub blockAdded : ℕ → ℕ → ℕ → ℕ → ℕ → ℕ → ℕ → ℕ → ℕ → ℕ → List Float → List Float
+  blockAdded i j sa sb ta tb n k z l s = loopLeft (λ z s. planeAdded (i + z * ta) (j + z * tb) sa sb n 0 k s) z l s
+
+abbrev pub fieldsIn : CartesianBlock → Fields
+fieldsIn b = fields (b .comp0) (b .comp1) (b .comp2) (b .weights)
+
+-- the first cells at the offset d, and how many there are on each axis
+abbrev pub firstA : Blocks.Idx3DOffset → Cell
+firstA d = cell (startA (d .dz)) (startA (d .dy)) (startA (d .dx))
+
+abbrev pub firstB : Blocks.Idx3DOffset → Cell
+firstB d = cell (startB (d .dz)) (startB (d .dy)) (startB (d .dx))
+
+abbrev pub overlapOf : CartesianBlock → CartesianBlock → Blocks.Idx3DOffset → Axes
+overlapOf a b d = record { z = count (a .nz) (b .nz) (d .dz); y = count (a .ny) (b .ny) (d .dy); x = count (a .nx) (b .nx) (d .dx) }
+
+module _ (setup : Setup) (valueEdges : List Float) (a b : CartesianBlock) where
+  unfoldable pub pairStep : Cell × Cell → List Float → List Float
+  pairStep q s = cellsAdded setup valueEdges (fieldsIn a) (fieldsIn b) (cellIndex a (q .0)) (cellIndex b (q .1)) s
+
+  -- the pairs of cells at the offset d, in order
+  unfoldable pub offsetCells : Blocks.Idx3DOffset → List Float → List Float
+  offsetCells d s = foldPack pairStep (cellPairs a b d) s
+
+-- ---- a state of its own for each offset, merged once into its bin
+-- a state of zeros, and the longest; shut, so that no goal writes it out
+unfoldable pub zeroState : List Float
+zeroState = replicate 256 (zeroF false)
+
+unfoldable pub fresh : ℕ → List Float
+fresh n = replicate n (zeroF false)
+
+-- the state's numbers from e on, m of them, added to state b of a pack of n
+unfoldable pub stateMerged : ℕ → ℕ → List Float → ℕ → ℕ → List Float → List Float
+stateMerged n b state e m s = loopLeft (λ e s. bump (place n e b) (at state e) s) e m s
+
+-- the pack has room for state b
+pub record Room (n b size len : ℕ) : Type 0 where
+  pub few : n ≤ 256
+  pub small : size ≤ 256
+  pub state : b < n
+  pub pack : n * size ≤ len
+
+-- the setup's states are its bins, and there is room for them
+pub record Roomy (setup : Setup) (list : List Float) (size len : ℕ) : Type 0 where
+  pub states : setup .«n_states» ≡ builtBins (setup .edges) (length list)
+  pub few : setup .«n_states» ≤ 256
+  pub small : size ≤ 256
+  pub pack : setup .«n_states» * size ≤ len
+
+abbrev pub mergedIn : Option ℕ → ℕ → List Float → List Float → List Float
+mergedIn none n state s = s
+mergedIn (some b) n state s = stateMerged n b state 0 (length state) s
+
+module _ (setup : Setup) (list valueEdges : List Float) (width : Blocks.CellWidth) (a b : CartesianBlock) (size : ℕ) where
+  unfoldable pub offsetAdded : Blocks.Idx3DOffset → List Float → List Float
+  offsetAdded d s = mergedIn (builtBin (setup .edges) list (distanceSquared width a b d)) (setup .«n_states») (offsetCells setup valueEdges a b d (fresh size)) s
+
+  unfoldable pub numberAdded : Option Blocks.Idx3DOffset → List Float → List Float
+  numberAdded none s = s
+  numberAdded (some d) s = offsetAdded d s
+
+  -- all offsets of a list
+  unfoldable pub offsetsAdded : List Blocks.Idx3DOffset → List Float → List Float
+  offsetsAdded l s = foldPack offsetAdded l s
+
+-- in auto the two blocks are one
+abbrev pub seqFor : Bool → Axes → Axes → List Blocks.Idx3DOffset
+seqFor true a b = autoSeq a
+seqFor false a b = crossSeq a b

@@ -1,0 +1,1146 @@
+// Two-point runs over the cells of Cartesian blocks (twopoint_cartesian.rs, spatial.rs).
+use bins::BinIndex;
+use idx_3d_offset::Axes;
+use idx_3d_offset::Idx3DOffset;
+use idx_3d_offset::Offset;
+use parallel_serial::Shape;
+use reducer::BuiltEdges;
+use reducer::Datum;
+use reducer::Edges;
+use reducer::Kind;
+use reducer::PairOperation;
+use reducer::Reducer;
+use state::Outcome;
+ghost use mathlib.Core.Path.{_≡_};
+ghost use mathlib.Core.Bool.{true, false, cond};
+ghost use mathlib.Core.List.{[]};
+ghost use Prim.Native.Nat.{_+_, _*_, _<_, _≤_};
+ghost use lib.ListN.{length, replicate, getElem?};
+ghost use Rattle.definitions.specs.Floats.{zeroF};
+ghost use Rattle.definitions.specs.Points.{square};
+ghost use Rattle.definitions.specs.Blocks.{cell, cellIndex, requiredLength, displaced, distanceSquared};
+ghost use Rattle.definitions.specs.Rules.{refusal, met, outside as outsideOf, overBlock, blockRules, widthRules, precedes as precedesOf, overSets, setRules, pairRules, runRules, step};
+ghost use Rattle.definitions.specs.Run.{merged};
+ghost use Rattle.bins.specs.Answers.{indexOf};
+ghost use Rattle.state.specs.Readings.{numberOf};
+ghost use Rattle.reducer.specs.Readings.{readingOf, edgesOf, kindOf};
+ghost use Rattle.reducer.specs.Consume.{builtBin};
+ghost use Rattle.parallel_serial.specs.Drive.{addedScratch};
+ghost use Rattle.parallel_serial.proofs.Refusals.{Drivable};
+ghost use Rattle.idx_3d_offset.specs.Offsets.{idxOf, offsetOf, Reach};
+ghost use Rattle.twopoint_cartesian.specs.Readings.{blockOf, widthOf, axesOf, setsRun, autoRun, crossRun};
+ghost use Rattle.twopoint_cartesian.specs.Refusals.{setsFor, setsNumber, noWidth, numbersOver, lengthOver, globalsOver, Limited};
+ghost use Rattle.twopoint_cartesian.specs.Cells.{fields, readingIn, Holds, RowFits, PlaneFits, BlockFits, Near, AllNear, Ready, Placed, cellsAdded, rowAdded, planeAdded, blockAdded, firstA, firstB, overlapOf, offsetCells, zeroState, fresh, Room, Roomy, stateMerged, offsetAdded, numberAdded, offsetsAdded, seqFor};
+
+// Axes, strides and global offsets in the order z, y, x.
+pub struct Block {
+    pub nz: usize,
+    pub ny: usize,
+    pub nx: usize,
+    pub sz: usize,
+    pub sy: usize,
+    pub sx: usize,
+    pub gz: i64,
+    pub gy: i64,
+    pub gx: i64,
+}
+
+pub struct CellWidth {
+    pub z: f64,
+    pub y: f64,
+    pub x: f64,
+}
+
+// What is the same for each offset of a run.
+struct Setup {
+    op: PairOperation,
+    edges: BuiltEdges,
+    reducer: Reducer,
+    n_states: usize,
+}
+
+// ---- refusals
+
+fn numbers_over(b: Block) -> bool
+    ensures { λ r. ⌜ r ≡ numbersOver (blockOf b [] [] [] []) ⌝ }
+{
+    if b.nz > 64 {
+        return true;
+    }
+    if b.ny > 64 {
+        return true;
+    }
+    if b.nx > 64 {
+        return true;
+    }
+    if b.sz > 65536 {
+        return true;
+    }
+    if b.sy > 65536 {
+        return true;
+    }
+    b.sx > 65536
+}
+
+// The last cell's place and one more.
+fn required_length(b: Block) -> usize
+    requires { ⌜ Limited b ⌝ ∗ ⌜ 1 ≤ b .nz ⌝ ∗ ⌜ 1 ≤ b .ny ⌝ }
+    ensures { λ r. ⌜ r ≡ requiredLength (blockOf b [] [] [] []) ⌝ }
+{
+    (b.nz - 1) * b.sz + (b.ny - 1) * b.sy + b.nx
+}
+
+// The length is judged only when no axis is zero.
+fn length_over(b: Block) -> bool
+    requires { ⌜ Limited b ⌝ }
+    ensures { λ r. ⌜ r ≡ lengthOver (blockOf b [] [] [] []) ⌝ }
+{
+    if b.nz == 0 {
+        return false;
+    }
+    if b.ny == 0 {
+        return false;
+    }
+    if b.nx == 0 {
+        return false;
+    }
+    required_length(b) > 65536
+}
+
+fn outside(g: i64) -> bool
+    ensures { λ r. ⌜ r ≡ outsideOf g ⌝ }
+{
+    if g < -1_000_000 {
+        return true;
+    }
+    g > 1_000_000
+}
+
+fn globals_over(b: Block) -> bool
+    ensures { λ r. ⌜ r ≡ globalsOver (blockOf b [] [] [] []) ⌝ }
+{
+    if outside(b.gz) {
+        return true;
+    }
+    if outside(b.gy) {
+        return true;
+    }
+    outside(b.gx)
+}
+
+fn block_over(b: Block) -> bool
+    ensures { λ r. ⌜ r ≡ overBlock (blockOf b [] [] [] []) ⌝ }
+{
+    if numbers_over(b) {
+        return true;
+    }
+    if length_over(b) {
+        return true;
+    }
+    globals_over(b)
+}
+
+// 14 to 19.
+fn block_refusal(comp0: &[f64], comp1: &[f64], comp2: &[f64], weights: &[f64], b: Block) -> u32
+    requires { ⌜ Limited b ⌝ }
+    ensures { λ r. ⌜ r ≡ refusal (blockRules (blockOf b (now (comp0 .entry)) (now (comp1 .entry)) (now (comp2 .entry)) (now (weights .entry)))) ⌝ }
+{
+    if b.nz == 0 {
+        return 14;
+    }
+    if b.ny == 0 {
+        return 14;
+    }
+    if b.nx == 0 {
+        return 14;
+    }
+    if b.sx != 1 {
+        return 15;
+    }
+    if b.sz < b.sy * b.ny {
+        return 16;
+    }
+    if b.sy < b.sx * b.nx {
+        return 17;
+    }
+    if weights.len() < required_length(b) {
+        return 18;
+    }
+    if comp0.len() != weights.len() {
+        return 19;
+    }
+    if comp1.len() != weights.len() {
+        return 19;
+    }
+    if comp2.len() != weights.len() {
+        return 19;
+    }
+    0
+}
+
+// 20. NaN passes.
+fn width_refusal(width: CellWidth) -> u32
+    ensures { λ r. ⌜ r ≡ refusal (widthRules (widthOf width)) ⌝ }
+{
+    if width.z <= 0.0 {
+        return 20;
+    }
+    if width.y <= 0.0 {
+        return 20;
+    }
+    if width.x <= 0.0 {
+        return 20;
+    }
+    0
+}
+
+// b's global offset before a's in z, y, x order.
+fn precedes(b: Block, a: Block) -> bool
+    ensures { λ r. ⌜ r ≡ precedesOf (blockOf b [] [] [] []) (blockOf a [] [] [] []) ⌝ }
+{
+    if b.gz < a.gz {
+        return true;
+    }
+    if a.gz < b.gz {
+        return false;
+    }
+    if b.gy < a.gy {
+        return true;
+    }
+    if a.gy < b.gy {
+        return false;
+    }
+    b.gx < a.gx
+}
+
+// 21, or in auto 22.
+fn pairs_refusal(auto: bool, a: Block, b: Block) -> u32
+    requires { ⌜ Limited a ⌝ }
+    ensures { λ r. ⌜ r ≡ refusal (pairRules (setsFor auto noWidth (blockOf a [] [] [] []) (blockOf b [] [] [] []))) ⌝ }
+{
+    if auto {
+        if a.nz * (a.ny * a.nx) < 2 {
+            return 22;
+        }
+        return 0;
+    }
+    if precedes(b, a) {
+        return 21;
+    }
+    0
+}
+
+fn sets_over(auto: bool, a: Block, b: Block) -> bool
+    ensures { λ r. ⌜ r ≡ overSets (setsFor auto noWidth (blockOf a [] [] [] []) (blockOf b [] [] [] [])) ⌝ }
+{
+    if block_over(a) {
+        return true;
+    }
+    if auto {
+        return false;
+    }
+    block_over(b)
+}
+
+// The blocks, a before b, then the widths.
+fn sets_refusal(
+    auto: bool,
+    a0: &[f64],
+    a1: &[f64],
+    a2: &[f64],
+    aw: &[f64],
+    a: Block,
+    b0: &[f64],
+    b1: &[f64],
+    b2: &[f64],
+    bw: &[f64],
+    b: Block,
+    width: CellWidth,
+) -> u32
+    requires { ⌜ Limited a ⌝ ∗ ⌜ (auto ≡ false → Limited b) ⌝ }
+    ensures { λ r. ⌜ r ≡ refusal (setRules (setsFor auto (widthOf width) (blockOf a (now (a0 .entry)) (now (a1 .entry)) (now (a2 .entry)) (now (aw .entry)))
+        (blockOf b (now (b0 .entry)) (now (b1 .entry)) (now (b2 .entry)) (now (bw .entry))))) ⌝ }
+{
+    let first = block_refusal(a0, a1, a2, aw, a);
+    if first != 0 {
+        return first;
+    }
+    if auto {
+        return width_refusal(width);
+    }
+    let second = block_refusal(b0, b1, b2, bw, b);
+    if second != 0 {
+        return second;
+    }
+    width_refusal(width)
+}
+
+// ---- the squared distance of an offset
+
+// (index displacement times width)² on one axis; ga and gb are the blocks' global offsets.
+fn displaced_squared(d: i64, ga: i64, gb: i64, width: f64) -> f64
+    requires { ⌜ Near d ⌝ ∗ ⌜ Near ga ⌝ ∗ ⌜ Near gb ⌝ }
+    ensures { λ r. ⌜ r ≡ square (displaced d ga gb width) ⌝ }
+{
+    let c = std::num::nearest_i64_to_f64(d + gb - ga) * width;
+    c * c
+}
+
+// From 0.0 in z, y, x order.
+fn distance_squared(width: CellWidth, a: Block, b: Block, o: Idx3DOffset) -> f64
+    requires { ⌜ AllNear (o .0) (o .1) (o .2) ⌝ ∗ ⌜ AllNear (a .gz) (a .gy) (a .gx) ⌝ ∗ ⌜ AllNear (b .gz) (b .gy) (b .gx) ⌝ }
+    ensures { λ r. ⌜ r ≡ distanceSquared (widthOf width) (blockOf a [] [] [] []) (blockOf b [] [] [] []) (idxOf o) ⌝ }
+{
+    let z = 0.0 + displaced_squared(o.0, a.gz, b.gz, width.z);
+    let y = z + displaced_squared(o.1, a.gy, b.gy, width.y);
+    y + displaced_squared(o.2, a.gx, b.gx, width.x)
+}
+
+// ---- the cells of an offset, into a state of their own
+
+fn cell_at(comp0: &[f64], comp1: &[f64], comp2: &[f64], weights: &[f64], i: usize) -> Datum
+    requires { ⌜ Holds (fields (now comp0) (now comp1) (now comp2) (now weights)) i ⌝ }
+    ensures { λ r. ⌜ readingOf r ≡ readingIn (fields (now (comp0 .entry)) (now (comp1 .entry)) (now (comp2 .entry)) (now (weights .entry))) i ⌝ }
+{
+    Datum {
+        c0: comp0[i],
+        c1: comp1[i],
+        c2: comp2[i],
+        weight: weights[i],
+    }
+}
+
+// Cell i of a with cell j of b.
+fn add_cells(
+    setup: Setup,
+    value_edges: &[f64],
+    a0: &[f64],
+    a1: &[f64],
+    a2: &[f64],
+    aw: &[f64],
+    b0: &[f64],
+    b1: &[f64],
+    b2: &[f64],
+    bw: &[f64],
+    i: usize,
+    j: usize,
+    state: &mut [f64],
+)
+    requires { ⌜ Holds (fields (now a0) (now a1) (now a2) (now aw)) i ⌝ ∗ ⌜ Holds (fields (now b0) (now b1) (now b2) (now bw)) j ⌝ }
+    ensures { λ _. ⌜ now (state .exit) ≡ cellsAdded setup (now («value_edges» .entry)) (fields (now (a0 .entry)) (now (a1 .entry)) (now (a2 .entry)) (now (aw .entry)))
+        (fields (now (b0 .entry)) (now (b1 .entry)) (now (b2 .entry)) (now (bw .entry))) i j (now (state .entry)) ⌝ }
+{
+    let op = setup.op;
+    let kind = setup.reducer;
+    let a = cell_at(a0, a1, a2, aw, i);
+    let b = cell_at(b0, b1, b2, bw, j);
+    let datum = reducer::datum_of(op, a, b);
+    reducer::consume(kind, value_edges, 1, 0, datum, state);
+}
+
+// n cells of a from i on, each with b's from j on.
+fn add_row(
+    setup: Setup,
+    value_edges: &[f64],
+    a0: &[f64],
+    a1: &[f64],
+    a2: &[f64],
+    aw: &[f64],
+    b0: &[f64],
+    b1: &[f64],
+    b2: &[f64],
+    bw: &[f64],
+    i: usize,
+    j: usize,
+    n: usize,
+    state: &mut [f64],
+)
+    requires { ⌜ RowFits (fields (now a0) (now a1) (now a2) (now aw)) i n ⌝ ∗ ⌜ RowFits (fields (now b0) (now b1) (now b2) (now bw)) j n ⌝ }
+    ensures { λ _. ⌜ now (state .exit) ≡ rowAdded setup (now («value_edges» .entry)) (fields (now (a0 .entry)) (now (a1 .entry)) (now (a2 .entry)) (now (aw .entry)))
+        (fields (now (b0 .entry)) (now (b1 .entry)) (now (b2 .entry)) (now (bw .entry))) i j 0 n (now (state .entry)) ⌝ }
+{
+    for x in 0..n {
+        add_cells(
+            setup,
+            value_edges,
+            a0,
+            a1,
+            a2,
+            aw,
+            b0,
+            b1,
+            b2,
+            bw,
+            i + x,
+            j + x,
+            state,
+        );
+    }
+}
+
+// k rows of n cells, each a stride after the one before: sa in a, sb in b.
+fn add_plane(
+    setup: Setup,
+    value_edges: &[f64],
+    a0: &[f64],
+    a1: &[f64],
+    a2: &[f64],
+    aw: &[f64],
+    b0: &[f64],
+    b1: &[f64],
+    b2: &[f64],
+    bw: &[f64],
+    i: usize,
+    j: usize,
+    sa: usize,
+    sb: usize,
+    n: usize,
+    k: usize,
+    state: &mut [f64],
+)
+    requires { ⌜ PlaneFits (fields (now a0) (now a1) (now a2) (now aw)) i sa n k ⌝ ∗ ⌜ PlaneFits (fields (now b0) (now b1) (now b2) (now bw)) j sb n k ⌝ }
+    ensures { λ _. ⌜ now (state .exit) ≡ planeAdded setup (now («value_edges» .entry)) (fields (now (a0 .entry)) (now (a1 .entry)) (now (a2 .entry)) (now (aw .entry)))
+        (fields (now (b0 .entry)) (now (b1 .entry)) (now (b2 .entry)) (now (bw .entry))) i j sa sb n 0 k (now (state .entry)) ⌝ }
+{
+    for y in 0..k {
+        add_row(
+            setup,
+            value_edges,
+            a0,
+            a1,
+            a2,
+            aw,
+            b0,
+            b1,
+            b2,
+            bw,
+            i + y * sa,
+            j + y * sb,
+            n,
+            state,
+        );
+    }
+}
+
+// l planes, each a stride after the one before: ta in a, tb in b.
+fn add_block(
+    setup: Setup,
+    value_edges: &[f64],
+    a0: &[f64],
+    a1: &[f64],
+    a2: &[f64],
+    aw: &[f64],
+    b0: &[f64],
+    b1: &[f64],
+    b2: &[f64],
+    bw: &[f64],
+    i: usize,
+    j: usize,
+    sa: usize,
+    sb: usize,
+    ta: usize,
+    tb: usize,
+    n: usize,
+    k: usize,
+    l: usize,
+    state: &mut [f64],
+)
+    requires { ⌜ BlockFits (fields (now a0) (now a1) (now a2) (now aw)) i sa ta n k l ⌝ ∗ ⌜ BlockFits (fields (now b0) (now b1) (now b2) (now bw)) j sb tb n k l ⌝ }
+    ensures { λ _. ⌜ now (state .exit) ≡ blockAdded setup (now («value_edges» .entry)) (fields (now (a0 .entry)) (now (a1 .entry)) (now (a2 .entry)) (now (aw .entry)))
+        (fields (now (b0 .entry)) (now (b1 .entry)) (now (b2 .entry)) (now (bw .entry))) i j sa sb ta tb n k 0 l (now (state .entry)) ⌝ }
+{
+    for z in 0..l {
+        add_plane(
+            setup,
+            value_edges,
+            a0,
+            a1,
+            a2,
+            aw,
+            b0,
+            b1,
+            b2,
+            bw,
+            i + z * ta,
+            j + z * tb,
+            sa,
+            sb,
+            n,
+            k,
+            state,
+        );
+    }
+}
+
+// The place of a cell in its block's slices.
+fn cell_index(b: Block, z: usize, y: usize, x: usize) -> usize
+    requires { ⌜ Placed (b .sz) (b .sy) (b .sx) (cell z y x) ⌝ }
+    ensures { λ r. ⌜ r ≡ cellIndex (blockOf b [] [] [] []) (cell z y x) ⌝ }
+{
+    z * b.sz + y * b.sy + x * b.sx
+}
+
+// The place of a's first cell at the offset, and of b's.
+fn first_of_a(a: Block, o: Idx3DOffset) -> usize
+    requires { ⌜ AllNear (o .0) (o .1) (o .2) ⌝ ∗ ⌜ Placed (a .sz) (a .sy) (a .sx) (firstA (idxOf o)) ⌝ }
+    ensures { λ r. ⌜ r ≡ cellIndex (blockOf a [] [] [] []) (firstA (idxOf o)) ⌝ }
+{
+    let z = idx_3d_offset::start_a(o.0);
+    let y = idx_3d_offset::start_a(o.1);
+    let x = idx_3d_offset::start_a(o.2);
+    cell_index(a, z, y, x)
+}
+
+fn first_of_b(b: Block, o: Idx3DOffset) -> usize
+    requires { ⌜ AllNear (o .0) (o .1) (o .2) ⌝ ∗ ⌜ Placed (b .sz) (b .sy) (b .sx) (firstB (idxOf o)) ⌝ }
+    ensures { λ r. ⌜ r ≡ cellIndex (blockOf b [] [] [] []) (firstB (idxOf o)) ⌝ }
+{
+    let z = idx_3d_offset::start_b(o.0);
+    let y = idx_3d_offset::start_b(o.1);
+    let x = idx_3d_offset::start_b(o.2);
+    cell_index(b, z, y, x)
+}
+
+// How many cells there are on each axis.
+fn overlap(a: Block, b: Block, o: Idx3DOffset) -> Axes
+    requires { ⌜ AllNear (o .0) (o .1) (o .2) ⌝ }
+    ensures { λ r. ⌜ r ≡ overlapOf (blockOf a [] [] [] []) (blockOf b [] [] [] []) (idxOf o) ⌝ }
+{
+    let z = idx_3d_offset::count(o.0, a.nz, b.nz);
+    let y = idx_3d_offset::count(o.1, a.ny, b.ny);
+    let x = idx_3d_offset::count(o.2, a.nx, b.nx);
+    Axes { z, y, x }
+}
+
+// The cells of the offset, a's with b's, into a state.
+fn add_offset_cells(
+    setup: Setup,
+    value_edges: &[f64],
+    a0: &[f64],
+    a1: &[f64],
+    a2: &[f64],
+    aw: &[f64],
+    a: Block,
+    b0: &[f64],
+    b1: &[f64],
+    b2: &[f64],
+    bw: &[f64],
+    b: Block,
+    o: Idx3DOffset,
+    state: &mut [f64],
+)
+    requires { ⌜ Ready (blockOf a (now a0) (now a1) (now a2) (now aw)) ⌝ ∗ ⌜ Ready (blockOf b (now b0) (now b1) (now b2) (now bw)) ⌝ ∗ ⌜ Reach (axesOf a) (axesOf b) (idxOf o) ⌝ }
+    ensures { λ _. ⌜ now (state .exit) ≡ offsetCells setup (now («value_edges» .entry)) (blockOf a (now (a0 .entry)) (now (a1 .entry)) (now (a2 .entry)) (now (aw .entry)))
+        (blockOf b (now (b0 .entry)) (now (b1 .entry)) (now (b2 .entry)) (now (bw .entry))) (idxOf o) (now (state .entry)) ⌝ }
+{
+    let i = first_of_a(a, o);
+    let j = first_of_b(b, o);
+    let n = overlap(a, b, o);
+    add_block(
+        setup,
+        value_edges,
+        a0,
+        a1,
+        a2,
+        aw,
+        b0,
+        b1,
+        b2,
+        bw,
+        i,
+        j,
+        a.sy,
+        b.sy,
+        a.sz,
+        b.sz,
+        n.x,
+        n.y,
+        n.z,
+        state,
+    );
+}
+
+// ---- a state of its own for each offset, merged once into its bin
+
+fn clear(state: &mut [f64])
+    ensures { λ _. ⌜ now (state .exit) ≡ fresh (length (now (state .entry))) ⌝ }
+{
+    for e in 0..state.len() {
+        state[e] = 0.0;
+    }
+}
+
+// Number e of the state is added to number e of state `bin` of the pack.
+fn merge_state(n_states: usize, bin: usize, state: &[f64], scratch: &mut [f64])
+    requires { ⌜ Room «n_states» bin (length (now state)) (length (now scratch)) ⌝ }
+    ensures { λ _. ⌜ now (scratch .exit) ≡ stateMerged «n_states» bin (now (state .entry)) 0 (length (now (state .entry))) (now (scratch .entry)) ⌝ }
+{
+    for e in 0..state.len() {
+        let at = e * n_states + bin;
+        scratch[at] = scratch[at] + state[e];
+    }
+}
+
+// The bin of an offset's distance.
+fn bin_of_offset(
+    setup: Setup,
+    list: &[f64],
+    width: CellWidth,
+    a: Block,
+    b: Block,
+    o: Idx3DOffset,
+) -> BinIndex
+    requires { ⌜ AllNear (o .0) (o .1) (o .2) ⌝ ∗ ⌜ AllNear (a .gz) (a .gy) (a .gx) ⌝ ∗ ⌜ AllNear (b .gz) (b .gy) (b .gx) ⌝ }
+    ensures { λ r. ⌜ indexOf r ≡ builtBin (setup .edges) (now (list .entry)) (distanceSquared (widthOf width) (blockOf a [] [] [] []) (blockOf b [] [] [] []) (idxOf o)) ⌝ }
+{
+    let edges = setup.edges;
+    let distance = distance_squared(width, a, b, o);
+    reducer::bin_of(edges, list, distance)
+}
+
+// The cells of the offset in a fresh state.
+fn sum_cells(
+    setup: Setup,
+    value_edges: &[f64],
+    a0: &[f64],
+    a1: &[f64],
+    a2: &[f64],
+    aw: &[f64],
+    a: Block,
+    b0: &[f64],
+    b1: &[f64],
+    b2: &[f64],
+    bw: &[f64],
+    b: Block,
+    o: Idx3DOffset,
+    state: &mut [f64],
+)
+    requires { ⌜ Ready (blockOf a (now a0) (now a1) (now a2) (now aw)) ⌝ ∗ ⌜ Ready (blockOf b (now b0) (now b1) (now b2) (now bw)) ⌝ ∗ ⌜ Reach (axesOf a) (axesOf b) (idxOf o) ⌝ }
+    ensures { λ _. ⌜ now (state .exit) ≡ offsetCells setup (now («value_edges» .entry)) (blockOf a (now (a0 .entry)) (now (a1 .entry)) (now (a2 .entry)) (now (aw .entry)))
+        (blockOf b (now (b0 .entry)) (now (b1 .entry)) (now (b2 .entry)) (now (bw .entry))) (idxOf o) (fresh (length (now (state .entry)))) ⌝ }
+{
+    clear(state);
+    add_offset_cells(
+        setup,
+        value_edges,
+        a0,
+        a1,
+        a2,
+        aw,
+        a,
+        b0,
+        b1,
+        b2,
+        bw,
+        b,
+        o,
+        state,
+    );
+}
+
+// The cells of one offset, if its distance has a bin.
+fn add_offset(
+    setup: Setup,
+    list: &[f64],
+    value_edges: &[f64],
+    width: CellWidth,
+    a0: &[f64],
+    a1: &[f64],
+    a2: &[f64],
+    aw: &[f64],
+    a: Block,
+    b0: &[f64],
+    b1: &[f64],
+    b2: &[f64],
+    bw: &[f64],
+    b: Block,
+    o: Idx3DOffset,
+    state: &mut [f64],
+    scratch: &mut [f64],
+)
+    requires { ⌜ Ready (blockOf a (now a0) (now a1) (now a2) (now aw)) ⌝ ∗ ⌜ Ready (blockOf b (now b0) (now b1) (now b2) (now bw)) ⌝ ∗ ⌜ Reach (axesOf a) (axesOf b) (idxOf o) ⌝ }
+    requires { ⌜ Roomy setup (now list) (length (now state)) (length (now scratch)) ⌝ }
+    ensures { λ _. ⌜ now (scratch .exit) ≡ offsetAdded setup (now (list .entry)) (now («value_edges» .entry)) (widthOf width) (blockOf a (now (a0 .entry)) (now (a1 .entry)) (now (a2 .entry)) (now (aw .entry)))
+        (blockOf b (now (b0 .entry)) (now (b1 .entry)) (now (b2 .entry)) (now (bw .entry))) (length (now (state .entry))) (idxOf o) (now (scratch .entry)) ⌝ }
+{
+    match bin_of_offset(setup, list, width, a, b, o) {
+        BinIndex::At(bin) => {
+            sum_cells(
+                setup,
+                value_edges,
+                a0,
+                a1,
+                a2,
+                aw,
+                a,
+                b0,
+                b1,
+                b2,
+                bw,
+                b,
+                o,
+                state,
+            );
+            merge_state(setup.n_states, bin, state, scratch);
+        }
+        BinIndex::None => {}
+    }
+}
+
+// ---- the walk over the offsets; in auto the two blocks are one
+
+fn axes_of(b: Block) -> Axes
+    ensures { λ r. ⌜ r ≡ axesOf b ⌝ }
+{
+    Axes {
+        z: b.nz,
+        y: b.ny,
+        x: b.nx,
+    }
+}
+
+fn seq_len(auto: bool, a: Block, b: Block) -> usize
+    ensures { λ r. ⌜ r ≡ length (seqFor auto (axesOf a) (axesOf b)) ⌝ }
+{
+    if auto {
+        return idx_3d_offset::auto_len(axes_of(a));
+    }
+    idx_3d_offset::cross_len(axes_of(a), axes_of(b))
+}
+
+fn seq_get(auto: bool, a: Block, b: Block, i: usize) -> Offset
+    ensures { λ r. ⌜ offsetOf r ≡ getElem? (seqFor auto (axesOf a) (axesOf b)) i ⌝ }
+{
+    if auto {
+        return idx_3d_offset::auto_offset(axes_of(a), i);
+    }
+    idx_3d_offset::cross_offset(axes_of(a), axes_of(b), i)
+}
+
+// Offset number i.
+fn add_number(
+    auto: bool,
+    setup: Setup,
+    list: &[f64],
+    value_edges: &[f64],
+    width: CellWidth,
+    a0: &[f64],
+    a1: &[f64],
+    a2: &[f64],
+    aw: &[f64],
+    a: Block,
+    b0: &[f64],
+    b1: &[f64],
+    b2: &[f64],
+    bw: &[f64],
+    b: Block,
+    i: usize,
+    state: &mut [f64],
+    scratch: &mut [f64],
+)
+    requires { ⌜ Ready (blockOf a (now a0) (now a1) (now a2) (now aw)) ⌝ ∗ ⌜ Ready (blockOf b (now b0) (now b1) (now b2) (now bw)) ⌝ ∗ ⌜ (auto ≡ true → axesOf a ≡ axesOf b) ⌝ ∗ ⌜ i < length (seqFor auto (axesOf a) (axesOf b)) ⌝ }
+    requires { ⌜ Roomy setup (now list) (length (now state)) (length (now scratch)) ⌝ }
+    ensures { λ _. ⌜ now (scratch .exit) ≡ numberAdded setup (now (list .entry)) (now («value_edges» .entry)) (widthOf width) (blockOf a (now (a0 .entry)) (now (a1 .entry)) (now (a2 .entry)) (now (aw .entry)))
+        (blockOf b (now (b0 .entry)) (now (b1 .entry)) (now (b2 .entry)) (now (bw .entry))) (length (now (state .entry))) (getElem? (seqFor auto (axesOf a) (axesOf b)) i) (now (scratch .entry)) ⌝ }
+{
+    match seq_get(auto, a, b, i) {
+        Offset::At(o) => add_offset(
+            setup,
+            list,
+            value_edges,
+            width,
+            a0,
+            a1,
+            a2,
+            aw,
+            a,
+            b0,
+            b1,
+            b2,
+            bw,
+            b,
+            o,
+            state,
+            scratch,
+        ),
+        Offset::End => {}
+    }
+}
+
+// All offsets of the sequence, in order.
+fn fill(
+    auto: bool,
+    setup: Setup,
+    list: &[f64],
+    value_edges: &[f64],
+    width: CellWidth,
+    a0: &[f64],
+    a1: &[f64],
+    a2: &[f64],
+    aw: &[f64],
+    a: Block,
+    b0: &[f64],
+    b1: &[f64],
+    b2: &[f64],
+    bw: &[f64],
+    b: Block,
+    state: &mut [f64],
+    scratch: &mut [f64],
+)
+    requires { ⌜ Ready (blockOf a (now a0) (now a1) (now a2) (now aw)) ⌝ ∗ ⌜ Ready (blockOf b (now b0) (now b1) (now b2) (now bw)) ⌝ ∗ ⌜ (auto ≡ true → axesOf a ≡ axesOf b) ⌝ }
+    requires { ⌜ Roomy setup (now list) (length (now state)) (length (now scratch)) ⌝ }
+    ensures { λ _. ⌜ now (scratch .exit) ≡ offsetsAdded setup (now (list .entry)) (now («value_edges» .entry)) (widthOf width) (blockOf a (now (a0 .entry)) (now (a1 .entry)) (now (a2 .entry)) (now (aw .entry)))
+        (blockOf b (now (b0 .entry)) (now (b1 .entry)) (now (b2 .entry)) (now (bw .entry))) (length (now (state .entry))) (seqFor auto (axesOf a) (axesOf b)) (now (scratch .entry)) ⌝ }
+{
+    let n = seq_len(auto, a, b);
+    for i in 0..n {
+        add_number(
+            auto,
+            setup,
+            list,
+            value_edges,
+            width,
+            a0,
+            a1,
+            a2,
+            aw,
+            a,
+            b0,
+            b1,
+            b2,
+            bw,
+            b,
+            i,
+            state,
+            scratch,
+        );
+    }
+}
+
+// ---- runs
+
+fn zero_state() -> [f64; 256]
+    ensures { λ r. ⌜ r ≡ zeroState ⌝ }
+{
+    [0.0; 256]
+}
+
+// Fills scratch and adds it to the caller's pack.
+fn run_in(
+    auto: bool,
+    setup: Setup,
+    list: &[f64],
+    value_edges: &[f64],
+    width: CellWidth,
+    a0: &[f64],
+    a1: &[f64],
+    a2: &[f64],
+    aw: &[f64],
+    a: Block,
+    b0: &[f64],
+    b1: &[f64],
+    b2: &[f64],
+    bw: &[f64],
+    b: Block,
+    state: &mut [f64],
+    scratch: &mut [f64],
+    pack: &mut [f64],
+)
+    requires { ⌜ Ready (blockOf a (now a0) (now a1) (now a2) (now aw)) ⌝ ∗ ⌜ Ready (blockOf b (now b0) (now b1) (now b2) (now bw)) ⌝ ∗ ⌜ (auto ≡ true → axesOf a ≡ axesOf b) ⌝ }
+    requires { ⌜ Roomy setup (now list) (length (now state)) (length (now scratch)) ⌝ }
+    ensures { λ _. ⌜ now (pack .exit) ≡ addedScratch (now (pack .entry)) (offsetsAdded setup (now (list .entry)) (now («value_edges» .entry)) (widthOf width) (blockOf a (now (a0 .entry)) (now (a1 .entry)) (now (a2 .entry)) (now (aw .entry)))
+        (blockOf b (now (b0 .entry)) (now (b1 .entry)) (now (b2 .entry)) (now (bw .entry))) (length (now (state .entry))) (seqFor auto (axesOf a) (axesOf b)) (now (scratch .entry))) ⌝ }
+{
+    fill(
+        auto,
+        setup,
+        list,
+        value_edges,
+        width,
+        a0,
+        a1,
+        a2,
+        aw,
+        a,
+        b0,
+        b1,
+        b2,
+        bw,
+        b,
+        state,
+        scratch,
+    );
+    parallel_serial::add_scratch(scratch, pack);
+}
+
+// An accepted run.
+fn drive(
+    auto: bool,
+    a0: &[f64],
+    a1: &[f64],
+    a2: &[f64],
+    aw: &[f64],
+    a: Block,
+    b0: &[f64],
+    b1: &[f64],
+    b2: &[f64],
+    bw: &[f64],
+    b: Block,
+    width: CellWidth,
+    edges: Edges,
+    list: &[f64],
+    kind: Kind,
+    value_edges: &[f64],
+    op: PairOperation,
+    shape: Shape,
+    pack: &mut [f64],
+)
+    requires { ⌜ Ready (blockOf a (now a0) (now a1) (now a2) (now aw)) ⌝ ∗ ⌜ Ready (blockOf b (now b0) (now b1) (now b2) (now bw)) ⌝ }
+    requires { ⌜ cond auto (blockOf a (now a0) (now a1) (now a2) (now aw)) (blockOf b (now b0) (now b1) (now b2) (now bw)) ≡ (blockOf b (now b0) (now b1) (now b2) (now bw)) ⌝ }
+    requires { ⌜ Drivable (edgesOf edges (now list)) (kindOf kind (now «value_edges»)) shape (length (now pack)) ⌝ }
+    ensures { λ _. ⌜ now (pack .exit) ≡ merged (setsRun (setsFor auto (widthOf width) (blockOf a (now (a0 .entry)) (now (a1 .entry)) (now (a2 .entry)) (now (aw .entry)))
+        (blockOf b (now (b0 .entry)) (now (b1 .entry)) (now (b2 .entry)) (now (bw .entry)))) edges (now (list .entry)) kind (now («value_edges» .entry)) op shape) (now (pack .entry)) ⌝ }
+{
+    let built = parallel_serial::build_edges(edges);
+    let reducer = parallel_serial::build_reducer(kind);
+    let n_states = shape.n_states;
+    let state_size = shape.state_size;
+    let setup = Setup {
+        op,
+        edges: built,
+        reducer,
+        n_states,
+    };
+    let used = n_states * state_size;
+    let mut state = zero_state();
+    let mut scratch = parallel_serial::zeros();
+    run_in(
+        auto,
+        setup,
+        list,
+        value_edges,
+        width,
+        a0,
+        a1,
+        a2,
+        aw,
+        a,
+        b0,
+        b1,
+        b2,
+        bw,
+        b,
+        &mut state[..state_size],
+        &mut scratch[..used],
+        pack,
+    );
+}
+
+// The first broken rule of a run.
+fn run_refusal(
+    auto: bool,
+    a0: &[f64],
+    a1: &[f64],
+    a2: &[f64],
+    aw: &[f64],
+    a: Block,
+    b0: &[f64],
+    b1: &[f64],
+    b2: &[f64],
+    bw: &[f64],
+    b: Block,
+    width: CellWidth,
+    edges: Edges,
+    list: &[f64],
+    kind: Kind,
+    value_edges: &[f64],
+    shape: Shape,
+    len: usize,
+) -> u32
+    ensures { λ r. ⌜ r ≡ setsNumber (setsFor auto (widthOf width) (blockOf a (now (a0 .entry)) (now (a1 .entry)) (now (a2 .entry)) (now (aw .entry)))
+        (blockOf b (now (b0 .entry)) (now (b1 .entry)) (now (b2 .entry)) (now (bw .entry)))) (edgesOf edges (now (list .entry))) (kindOf kind (now («value_edges» .entry))) shape len ⌝ }
+{
+    if sets_over(auto, a, b) {
+        return 7;
+    }
+    let sets = sets_refusal(auto, a0, a1, a2, aw, a, b0, b1, b2, bw, b, width);
+    let pairs = pairs_refusal(auto, a, b);
+    parallel_serial::run_refusal(
+        false,
+        sets,
+        pairs,
+        edges,
+        list,
+        kind,
+        value_edges,
+        shape,
+        len,
+    )
+}
+
+fn run(
+    auto: bool,
+    a0: &[f64],
+    a1: &[f64],
+    a2: &[f64],
+    aw: &[f64],
+    a: Block,
+    b0: &[f64],
+    b1: &[f64],
+    b2: &[f64],
+    bw: &[f64],
+    b: Block,
+    width: CellWidth,
+    edges: Edges,
+    list: &[f64],
+    kind: Kind,
+    value_edges: &[f64],
+    op: PairOperation,
+    shape: Shape,
+    pack: &mut [f64],
+) -> Outcome
+    requires { ⌜ cond auto (blockOf a (now a0) (now a1) (now a2) (now aw)) (blockOf b (now b0) (now b1) (now b2) (now bw)) ≡ (blockOf b (now b0) (now b1) (now b2) (now bw)) ⌝ }
+    ensures { λ r. ⌜ numberOf r ≡ met (refusal (runRules (setsRun (setsFor auto (widthOf width) (blockOf a (now (a0 .entry)) (now (a1 .entry)) (now (a2 .entry)) (now (aw .entry)))
+        (blockOf b (now (b0 .entry)) (now (b1 .entry)) (now (b2 .entry)) (now (bw .entry)))) edges (now (list .entry)) kind (now («value_edges» .entry)) op shape) (length (now (pack .entry))))) ⌝ }
+    ensures { λ _. ⌜ now (pack .exit) ≡ step (setsRun (setsFor auto (widthOf width) (blockOf a (now (a0 .entry)) (now (a1 .entry)) (now (a2 .entry)) (now (aw .entry)))
+        (blockOf b (now (b0 .entry)) (now (b1 .entry)) (now (b2 .entry)) (now (bw .entry)))) edges (now (list .entry)) kind (now («value_edges» .entry)) op shape) (now (pack .entry)) ⌝ }
+{
+    let number = run_refusal(
+        auto,
+        a0,
+        a1,
+        a2,
+        aw,
+        a,
+        b0,
+        b1,
+        b2,
+        bw,
+        b,
+        width,
+        edges,
+        list,
+        kind,
+        value_edges,
+        shape,
+        pack.len(),
+    );
+    if number != 0 {
+        return Outcome::Refused(number);
+    }
+    drive(
+        auto,
+        a0,
+        a1,
+        a2,
+        aw,
+        a,
+        b0,
+        b1,
+        b2,
+        bw,
+        b,
+        width,
+        edges,
+        list,
+        kind,
+        value_edges,
+        op,
+        shape,
+        pack,
+    );
+    Outcome::Done
+}
+
+// The pairs of a block's cells: the offsets after (0, 0, 0).
+pub fn blocks_auto(
+    comp0: &[f64],
+    comp1: &[f64],
+    comp2: &[f64],
+    weights: &[f64],
+    block: Block,
+    width: CellWidth,
+    edges: Edges,
+    list: &[f64],
+    kind: Kind,
+    value_edges: &[f64],
+    op: PairOperation,
+    shape: Shape,
+    pack: &mut [f64],
+) -> Outcome
+    ensures { λ r. ⌜ numberOf r ≡ met (refusal (runRules (autoRun width (blockOf block (now (comp0 .entry)) (now (comp1 .entry)) (now (comp2 .entry)) (now (weights .entry)))
+        edges (now (list .entry)) kind (now («value_edges» .entry)) op shape) (length (now (pack .entry))))) ⌝ }
+    ensures { λ _. ⌜ now (pack .exit) ≡ step (autoRun width (blockOf block (now (comp0 .entry)) (now (comp1 .entry)) (now (comp2 .entry)) (now (weights .entry)))
+        edges (now (list .entry)) kind (now («value_edges» .entry)) op shape) (now (pack .entry)) ⌝ }
+{
+    run(
+        true,
+        comp0,
+        comp1,
+        comp2,
+        weights,
+        block,
+        comp0,
+        comp1,
+        comp2,
+        weights,
+        block,
+        width,
+        edges,
+        list,
+        kind,
+        value_edges,
+        op,
+        shape,
+        pack,
+    )
+}
+
+// The pairs of a's cells with b's: all offsets.
+pub fn blocks_cross(
+    a0: &[f64],
+    a1: &[f64],
+    a2: &[f64],
+    aw: &[f64],
+    a: Block,
+    b0: &[f64],
+    b1: &[f64],
+    b2: &[f64],
+    bw: &[f64],
+    b: Block,
+    width: CellWidth,
+    edges: Edges,
+    list: &[f64],
+    kind: Kind,
+    value_edges: &[f64],
+    op: PairOperation,
+    shape: Shape,
+    pack: &mut [f64],
+) -> Outcome
+    ensures { λ r. ⌜ numberOf r ≡ met (refusal (runRules (crossRun width (blockOf a (now (a0 .entry)) (now (a1 .entry)) (now (a2 .entry)) (now (aw .entry)))
+        (blockOf b (now (b0 .entry)) (now (b1 .entry)) (now (b2 .entry)) (now (bw .entry))) edges (now (list .entry)) kind (now («value_edges» .entry)) op shape) (length (now (pack .entry))))) ⌝ }
+    ensures { λ _. ⌜ now (pack .exit) ≡ step (crossRun width (blockOf a (now (a0 .entry)) (now (a1 .entry)) (now (a2 .entry)) (now (aw .entry)))
+        (blockOf b (now (b0 .entry)) (now (b1 .entry)) (now (b2 .entry)) (now (bw .entry))) edges (now (list .entry)) kind (now («value_edges» .entry)) op shape) (now (pack .entry)) ⌝ }
+{
+    run(
+        false,
+        a0,
+        a1,
+        a2,
+        aw,
+        a,
+        b0,
+        b1,
+        b2,
+        bw,
+        b,
+        width,
+        edges,
+        list,
+        kind,
+        value_edges,
+        op,
+        shape,
+        pack,
+    )
+}
