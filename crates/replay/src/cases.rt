@@ -240,6 +240,7 @@ pub fn agrees(op: u64, words: &[u64], floats: &[f64], room: &mut [f64]) -> bool
         6 => consolidate(words, floats, room),
         7 => result(words, floats, room),
         8 => crate::runs::points(words, floats, room),
+        9 => crate::blocks::blocks(words, floats, room),
         _ => false,
     }
 }

@@ -3,6 +3,7 @@ ghost use mathlib.Core.Path.{_≡_};
 ghost use Prim.Native.Nat.{_*_, _≤_};
 ghost use lib.ListN.{length};
 
+mod blocks;
 mod cases;
 mod runs;
 mod words;
@@ -149,4 +150,5 @@ fn main() {
     replay(b"segments.bin");
     replay(b"pack.bin");
     replay(b"points.bin");
+    replay(b"blocks.bin");
 }

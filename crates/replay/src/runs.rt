@@ -140,7 +140,7 @@ pub struct RunParts {
     pub end: usize,
 }
 
-fn run_parts(words: &[u64], form: u64, at: usize) -> RunParts
+pub fn run_parts(words: &[u64], form: u64, at: usize) -> RunParts
     requires { ⌜ at ≤ length (now words) ⌝ ∗ ⌜ length (now words) ≤ 8192 ⌝ }
     ensures { λ r. ⌜ RunWithin r (length (now (words .entry))) ⌝ }
 {
@@ -169,7 +169,7 @@ pub struct Setting {
 }
 
 // The edges stand at `at`, the value edges after them, the shape after those.
-fn call_at(words: &[u64], floats: &[f64], at: usize, r: RunParts) -> Setting
+pub fn call_at(words: &[u64], floats: &[f64], at: usize, r: RunParts) -> Setting
     requires { ⌜ at ≤ 8192 ⌝ ∗ ⌜ length (now floats) ≤ 8192 ⌝ ∗ ⌜ RunWithin r (length (now floats)) ⌝ }
 {
     let edges = edges_at(words, floats, at);
