@@ -1,0 +1,2 @@
+-- What the numbers of a flat call stand for.
+pub mod Entries
