@@ -29,7 +29,7 @@ use Rattle.reducer.specs.declared.Reducer.{Reducer}
 use Rattle.reducer.specs.declared.Reducer.the-variants.{Comp0Mean, ComponentSumMean, ComponentSumHistogram}
 use Rattle.reducer.specs.declared.Datum.{Datum}
 use Rattle.reducer.specs.Readings.{opOf, theDatum, readingOf}
-use Rattle.reducer.specs.Consume.{builtBins, builtFind, builtBin, reducerSize, hasRoom, addIn, added, consumed}
+use Rattle.reducer.specs.Consume.{builtBins, builtFind, builtBin, reducerSize, hasRoom, addIn, valueBin, addedAt, consumedAt, consumed}
 
 -- ---- a pair's datum
 module _ (op : PairOperation) (a b : Datum) where
@@ -94,20 +94,15 @@ below-bins n (some j) i e = go (ltb j n) refl e
     go true t k = subst (λ (a : ℕ). a < n) (sym (Option·some-injective i j k)) (ltb-true j n t)
     go false t k = absurd (Option·some-ne-none i k)
 
-module _ (edges : BuiltEdges) (list : List Float) (x : Float) (r : BinIndex) (h : indexOf r ≡ builtBin edges list x) where
-  pub bin-below : (i : ℕ) → r ≡ At i → i < builtBins edges (length list)
-  unfolding builtBin
-  bin-below i t = below-bins (builtBins edges (length list)) (builtFind edges list x) i (sym (ap indexOf t) ∙ h)
+module _ (m : ℕ) (r : BinIndex) (n s : ℕ) (w : Float) (p : List Float) where
+  pub hist-kept : (i : ℕ) (q : List Float) → r ≡ At i → i < m → q ≡ addHist n s i w p → q ≡ addIn (below m (indexOf r)) n s w p
+  hist-kept i q t l e = e ∙ (rw (t, lt-ltb i m l))
 
-  module _ (n s : ℕ) (w : Float) (p : List Float) where
-    pub hist-place : (i len : ℕ) → r ≡ At i → s < n → n * builtBins edges (length list) ≤ len → place n i s < len
-    hist-place i len t k l = place-within i (builtBins edges (length list)) s n len (bin-below i t) k l
+  pub hist-past : (i : ℕ) → r ≡ At i → m ≤ i → p ≡ addIn (below m (indexOf r)) n s w p
+  hist-past i t l = rw (t, le-ltb i m l)
 
-    pub hist-kept : (i : ℕ) (q : List Float) → r ≡ At i → q ≡ addHist n s i w p → q ≡ addIn (builtBin edges list x) n s w p
-    hist-kept i q t e = e ∙ (rw (← h, t))
-
-    pub hist-none : r ≡ None → p ≡ addIn (builtBin edges list x) n s w p
-    hist-none t = rw (← h, t)
+  pub hist-none : r ≡ None → p ≡ addIn (below m (indexOf r)) n s w p
+  hist-none t = rw t
 
 -- ---- a datum
 both : (a b : Bool) → (a && b) ≡ true → (a ≡ true) × (b ≡ true)
@@ -127,37 +122,53 @@ module _ (n size s len : ℕ) (h : hasRoom n size s len ≡ true) where
   room-pack : n * size ≤ len
   room-pack = leb-true (n * size) len (parts .1)
 
-module _ (r : Reducer) (list : List Float) (n s : ℕ) (d : definitions.Datum) (p : List Float) (size : ℕ) (z : size ≡ reducerSize r (length list)) (o : Bool) (h : o ≡ hasRoom n size s (length p)) where
-  pub consumed-none : o ≡ false → p ≡ consumed r list n s d p
-  unfolding consumed
+module _ (r : Reducer) (m : ℕ) (b : BinIndex) (n s : ℕ) (d : definitions.Datum) (p : List Float) (size : ℕ) (z : size ≡ reducerSize r m) (o : Bool) (h : o ≡ hasRoom n size s (length p)) where
+  pub consumed-none : o ≡ false → p ≡ consumedAt r m (indexOf b) n s d p
+  unfolding consumedAt
   consumed-none t = rw (← z, ← h, t)
 
   module _ (t : o ≡ true) where
     pub consumed-state : s < n
     consumed-state = room-state n size s (length p) (sym h ∙ t)
 
-    within : n * reducerSize r (length list) ≤ length p
-    within = rw z at (room-pack n size s (length p) (sym h ∙ t))
+    pub within : n * size ≤ length p
+    within = room-pack n size s (length p) (sym h ∙ t)
+
+    two : (k : Reducer) → r ≡ k → reducerSize k m ≡ 2 → n * 2 ≤ length p
+    two k e f = subst (λ (a : ℕ). n * a ≤ length p) (z ∙ ap (λ (a : Reducer). reducerSize a m) e ∙ f) within
 
     pub within-comp0 : r ≡ Comp0Mean → n * 2 ≤ length p
-    within-comp0 m = rw m at within
+    within-comp0 e = two Comp0Mean e refl
 
     pub within-sum : r ≡ ComponentSumMean → n * 2 ≤ length p
-    within-sum m = rw m at within
-
-    pub within-histogram : (e : BuiltEdges) → r ≡ ComponentSumHistogram e → n * builtBins e (length list) ≤ length p
-    within-histogram e m = rw m at within
+    within-sum e = two ComponentSumMean e refl
 
     module _ (q : List Float) where
-      by-reducer : (k : Reducer) → r ≡ k → q ≡ added k list n s d p → q ≡ consumed r list n s d p
-      unfolding consumed
-      by-reducer k m e = e ∙ (rw (← z, ← h, t, m))
+      by-reducer : (k : Reducer) → r ≡ k → q ≡ addedAt k m (indexOf b) n s d p → q ≡ consumedAt r m (indexOf b) n s d p
+      unfolding consumedAt
+      by-reducer k e f = f ∙ (rw (← z, ← h, t, e))
 
-      pub consumed-comp0 : r ≡ Comp0Mean → q ≡ addMean n s (d .c0) (d .weight) p → q ≡ consumed r list n s d p
-      consumed-comp0 m e = by-reducer Comp0Mean m e
+      pub consumed-comp0 : r ≡ Comp0Mean → q ≡ addMean n s (d .c0) (d .weight) p → q ≡ consumedAt r m (indexOf b) n s d p
+      consumed-comp0 e f = by-reducer Comp0Mean e f
 
-      pub consumed-sum : (v : Float) → r ≡ ComponentSumMean → v ≡ componentSum d → q ≡ addMean n s v (d .weight) p → q ≡ consumed r list n s d p
-      consumed-sum v m c e = by-reducer ComponentSumMean m (e ∙ ap (λ (x : Float). addMean n s x (d .weight) p) c)
+      pub consumed-sum : (v : Float) → r ≡ ComponentSumMean → v ≡ componentSum d → q ≡ addMean n s v (d .weight) p → q ≡ consumedAt r m (indexOf b) n s d p
+      consumed-sum v e c f = by-reducer ComponentSumMean e (f ∙ ap (λ (x : Float). addMean n s x (d .weight) p) c)
 
-      pub consumed-histogram : (k : BuiltEdges) (v : Float) → r ≡ ComponentSumHistogram k → v ≡ componentSum d → q ≡ addIn (builtBin k list v) n s (d .weight) p → q ≡ consumed r list n s d p
-      consumed-histogram k v m c e = by-reducer (ComponentSumHistogram k) m (e ∙ ap (λ (x : Float). addIn (builtBin k list x) n s (d .weight) p) c)
+      pub consumed-histogram : (k : BuiltEdges) → r ≡ ComponentSumHistogram k → q ≡ addIn (below size (indexOf b)) n s (d .weight) p → q ≡ consumedAt r m (indexOf b) n s d p
+      consumed-histogram k e f =
+          by-reducer (ComponentSumHistogram k) e (f ∙ ap (λ (a : ℕ). addIn (below a (indexOf b)) n s (d .weight) p) (z ∙ ap (λ (a : Reducer). reducerSize a m) e))
+
+-- ---- the value's bin
+module _ (r : Reducer) (list : List Float) (d : definitions.Datum) where
+  pub value-histogram : (k : BuiltEdges) (v : Float) (o : Option ℕ) → r ≡ ComponentSumHistogram k → v ≡ componentSum d → o ≡ builtBin k list v → o ≡ valueBin r list d
+  value-histogram k v o e c f = rw e (f ∙ ap (builtBin k list) c)
+
+pub consumed-found : (r : Reducer) (list : List Float) (n s : ℕ) (d : definitions.Datum) (p : List Float) → consumed r list n s d p ≡ consumedAt r (length list) (valueBin r list d) n s d p
+unfolding consumed
+consumed-found r list n s d p = refl
+
+-- b is the bin found, q what `consume_at` left
+pub consumed-is : (r : Reducer) (list : List Float) (n s : ℕ) (d : definitions.Datum) (p q : List Float) (b : BinIndex) → indexOf b ≡ valueBin r list d
+    → q ≡ consumedAt r (length list) (indexOf b) n s d p → q ≡ consumed r list n s d p
+unfolding consumed
+consumed-is r list n s d p q b e f = f ∙ ap (λ (o : Option ℕ). consumedAt r (length list) o n s d p) e

@@ -57,12 +57,22 @@ abbrev pub addIn : Option ℕ → ℕ → ℕ → Float → List Float → List 
 addIn none n s w pack = pack
 addIn (some b) n s w pack = addHist n s b w pack
 
--- the datum is added to state s
-abbrev pub added : Reducer → List Float → ℕ → ℕ → Datum → List Float → List Float
-added Comp0Mean list n s d pack = addMean n s (d .c0) (d .weight) pack
-added ComponentSumMean list n s d pack = addMean n s (componentSum d) (d .weight) pack
-added (ComponentSumHistogram e) list n s d pack = addIn (builtBin e list (componentSum d)) n s (d .weight) pack
+-- the bin of a datum's value; a mean needs none
+abbrev pub valueBin : Reducer → List Float → Datum → Option ℕ
+valueBin Comp0Mean list d = none
+valueBin ComponentSumMean list d = none
+valueBin (ComponentSumHistogram e) list d = builtBin e list (componentSum d)
+
+-- the datum, whose value's bin is o, is added to state s; m is the length of the value edges
+abbrev pub addedAt : Reducer → ℕ → Option ℕ → ℕ → ℕ → Datum → List Float → List Float
+addedAt Comp0Mean m o n s d pack = addMean n s (d .c0) (d .weight) pack
+addedAt ComponentSumMean m o n s d pack = addMean n s (componentSum d) (d .weight) pack
+addedAt (ComponentSumHistogram e) m o n s d pack = addIn (below (builtBins e m) o) n s (d .weight) pack
 
 -- the same, nothing where there is no room
+unfoldable pub consumedAt : Reducer → ℕ → Option ℕ → ℕ → ℕ → Datum → List Float → List Float
+consumedAt r m o n s d pack = cond (hasRoom n (reducerSize r m) s (length pack)) (addedAt r m o n s d pack) pack
+
+-- the same with the value looked up
 unfoldable pub consumed : Reducer → List Float → ℕ → ℕ → Datum → List Float → List Float
-consumed r list n s d pack = cond (hasRoom n (reducerSize r (length list)) s (length pack)) (added r list n s d pack) pack
+consumed r list n s d pack = consumedAt r (length list) (valueBin r list d) n s d pack

@@ -4,12 +4,13 @@ use bins::RegularBinEdges;
 ghost use mathlib.Core.Path.{_≡_};
 ghost use Prim.Native.Nat.{_*_, _<_, _≤_};
 ghost use lib.ListN.{length};
+ghost use Rattle.definitions.specs.Bins.{below};
 ghost use Rattle.definitions.specs.Reducer.{datumOf, componentSum};
 ghost use Rattle.definitions.specs.Run.{place};
 ghost use Rattle.laws.proofs.Places.{bump, addMean};
 ghost use Rattle.bins.specs.Answers.{indexOf};
 ghost use Rattle.reducer.specs.Readings.{opOf, theDatum, readingOf};
-ghost use Rattle.reducer.specs.Consume.{builtBins, builtFind, builtBin, reducerSize, hasRoom, addIn, consumed};
+ghost use Rattle.reducer.specs.Consume.{builtBins, builtFind, builtBin, reducerSize, hasRoom, addIn, valueBin, consumedAt, consumed};
 
 pub enum PairOperation {
     ElementwiseMultiply,
@@ -71,7 +72,7 @@ pub fn datum_of(op: PairOperation, a: Datum, b: Datum) -> Datum
 }
 
 // c0 + (c1 + c2)
-fn component_sum(d: Datum) -> f64
+pub fn component_sum(d: Datum) -> f64
     ensures { λ r. ⌜ r ≡ componentSum (theDatum d) ⌝ }
 {
     d.c0 + (d.c1 + d.c2)
@@ -161,22 +162,64 @@ fn add_mean(n_states: usize, s: usize, value: f64, weight: f64, pack: &mut [f64]
     add_number(n_states, 1, s, weight, pack);
 }
 
-// Weight to the number of the value's bin.
+// Weight to the number of bin `found`, if it is one of n_bins.
 fn add_histogram(
-    edges: BuiltEdges,
-    list: &[f64],
+    n_bins: usize,
+    found: BinIndex,
     n_states: usize,
     s: usize,
-    value: f64,
     weight: f64,
     pack: &mut [f64],
 )
-    requires { ⌜ (s < «n_states») × («n_states» * builtBins edges (length (now list)) ≤ length (now pack)) ⌝ }
-    ensures { λ _. ⌜ now (pack .exit) ≡ addIn (builtBin edges (now (list .entry)) value) «n_states» s weight (now (pack .entry)) ⌝ }
+    requires { ⌜ (s < «n_states») × («n_states» * «n_bins» ≤ length (now pack)) ⌝ }
+    ensures { λ _. ⌜ now (pack .exit) ≡ addIn (below «n_bins» (indexOf found)) «n_states» s weight (now (pack .entry)) ⌝ }
 {
-    match bin_of(edges, list, value) {
-        BinIndex::At(bin) => add_number(n_states, bin, s, weight, pack),
+    match found {
+        BinIndex::At(bin) => {
+            if bin < n_bins {
+                add_number(n_states, bin, s, weight, pack);
+            }
+        }
         BinIndex::None => {}
+    }
+}
+
+// The datum, whose value's bin is known, is added to state s of a pack of n_states states; nothing where there is no room. A mean needs no bin.
+pub fn consume_at(
+    reducer: Reducer,
+    value_edges_len: usize,
+    found: BinIndex,
+    n_states: usize,
+    s: usize,
+    datum: Datum,
+    pack: &mut [f64],
+)
+    ensures { λ _. ⌜ now (pack .exit) ≡ consumedAt reducer «value_edges_len» (indexOf found) «n_states» s (theDatum datum) (now (pack .entry)) ⌝ }
+{
+    let size = state_size(reducer, value_edges_len);
+    if has_room(n_states, size, s, pack.len()) {
+        match reducer {
+            Reducer::Comp0Mean => add_mean(n_states, s, datum.c0, datum.weight, pack),
+            Reducer::ComponentSumMean => {
+                add_mean(n_states, s, component_sum(datum), datum.weight, pack)
+            }
+            Reducer::ComponentSumHistogram(_) => {
+                add_histogram(size, found, n_states, s, datum.weight, pack)
+            }
+        }
+    }
+}
+
+fn value_bin(reducer: Reducer, value_edges: &[f64], datum: Datum) -> BinIndex
+    ensures { λ r. ⌜ indexOf r ≡ valueBin reducer (now («value_edges» .entry)) (theDatum datum) ⌝ }
+{
+    match reducer {
+        Reducer::Comp0Mean => BinIndex::None,
+        Reducer::ComponentSumMean => BinIndex::None,
+        Reducer::ComponentSumHistogram(edges) => {
+            let value = component_sum(datum);
+            bin_of(edges, value_edges, value)
+        }
     }
 }
 
@@ -191,22 +234,6 @@ pub fn consume(
 )
     ensures { λ _. ⌜ now (pack .exit) ≡ consumed reducer (now («value_edges» .entry)) «n_states» s (theDatum datum) (now (pack .entry)) ⌝ }
 {
-    let size = state_size(reducer, value_edges.len());
-    if has_room(n_states, size, s, pack.len()) {
-        match reducer {
-            Reducer::Comp0Mean => add_mean(n_states, s, datum.c0, datum.weight, pack),
-            Reducer::ComponentSumMean => {
-                add_mean(n_states, s, component_sum(datum), datum.weight, pack)
-            }
-            Reducer::ComponentSumHistogram(edges) => add_histogram(
-                edges,
-                value_edges,
-                n_states,
-                s,
-                component_sum(datum),
-                datum.weight,
-                pack,
-            ),
-        }
-    }
+    let found = value_bin(reducer, value_edges, datum);
+    consume_at(reducer, value_edges.len(), found, n_states, s, datum, pack);
 }

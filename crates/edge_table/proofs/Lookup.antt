@@ -1,0 +1,211 @@
+-- A table of accepted edges finds the edges' own bins, for any hints.
+use mathlib.Core.Path.{_≡_, refl, sym, ap, subst, _∙_}
+use mathlib.Core.Logic.{⊎-elim}
+use mathlib.Core.Option.{Option, none, some}
+use mathlib.Core.Bool.{Bool, true, false, cond, not, _&&_, _||_, true≢false}
+use mathlib.Core.List.{List, _∷_}
+use Prim.Native.Nat.{ℕ, zero, suc, _+_, _-_, _<_, _≤_}
+use native.Mathlib.Nat.{le-refl, lt-irrefl, eq-or-lt-of-le}
+use native.Mathlib.Omega.{arith}
+use lib.Dec.{T, leb, ltb}
+use lib.ListN.{length, getD, set, length-set, List·getD-eq-default}
+use lib.Seq.{getD-set-same, getD-set-other}
+use lib.Ieee.{Float, binary64, add, lt, le, isNan, fits}
+use lib.Ieee.Fits.{add-fits}
+use borrow.Author.Tests.{lt-ltb, le-leb, lt-leb, ltb-true, ltb-false, leb-true}
+use Rattle.definitions.specs.Lists.{at}
+use Rattle.definitions.specs.Floats.{notAfter}
+use Rattle.definitions.specs.Bins as definitions
+use Rattle.definitions.specs.Bins.{regularIndex, irregularIndex, lastEdge, below, bins}
+use Rattle.definitions.specs.Reducer.{Datum, componentSum, stateKind}
+use Rattle.definitions.specs.Rules.{refusal, rule, edgesCallRules, kindRules, overState, allFinite, increasing}
+use Rattle.floats.specs.Order.{orderKey}
+use Rattle.floats.proofs.Keys.{key-order, sorted}
+use Rattle.bins.proofs.Irregular.{halves-at}
+use Rattle.reducer.specs.declared.Edges.{Edges}
+use Rattle.reducer.specs.declared.Edges.the-variants as edges
+use Rattle.reducer.specs.declared.Kind.{Kind}
+use Rattle.reducer.specs.declared.Kind.the-variants as kinds
+use Rattle.reducer.specs.declared.BuiltEdges.{BuiltEdges}
+use Rattle.reducer.specs.declared.BuiltEdges.the-variants.{Regular, Irregular}
+use Rattle.reducer.specs.declared.Reducer.{Reducer}
+use Rattle.reducer.specs.declared.Reducer.the-variants.{Comp0Mean, ComponentSumMean, ComponentSumHistogram}
+use Rattle.reducer.specs.Readings.{edgesOf, kindOf}
+use Rattle.reducer.specs.Consume.{madeEdges, made, builtBin, valueBin, consumedAt, consumed}
+use Rattle.reducer.proofs.Ways.{consumed-found}
+use Rattle.edge_table.specs.declared.Table.{Table}
+use Rattle.edge_table.specs.Table.{keysTo, keysOf, tableOf, encloses, searched, guessed, triedBin, keyedBin, tableBin, valueTableOf, tableValueBin, tableConsumed}
+use Rattle.edge_table.specs.Tabled.{Usable, EndsOf, Keys, Tabled, UsableValues, TabledValues}
+
+-- ---- a value outside the ends has no bin
+low-none : (a b c : Bool) (o : Option ℕ) → b ≡ true → none ≡ cond (a || b || c) none o
+low-none true b c o h = refl
+low-none false true c o h = refl
+low-none false false c o h = absurd (true≢false (sym h))
+
+high-none : (a b c : Bool) (o : Option ℕ) → c ≡ true → none ≡ cond (a || b || c) none o
+high-none true b c o h = refl
+high-none false true c o h = refl
+high-none false false true o h = refl
+high-none false false false o h = absurd (true≢false (sym h))
+
+module _ (es : List Float) (first last x : Float) where
+  pub bin-low : (edges : BuiltEdges) → EndsOf edges es first last → lt x first ≡ true → none ≡ builtBin edges es x
+  unfolding builtBin regularIndex irregularIndex
+  bin-low (Regular e) ends h = ap (below (e .«n_bins»)) (low-none false (lt x (e .min)) (le (e .max) x) _ (ap (lt x) (sym (ends .0)) ∙ h))
+  bin-low Irregular ends h = ap (below (length es - 1)) (low-none (isNan x) (lt x (at es 0)) (le (at es (length es - 1)) x) _ (ap (lt x) (sym (ends .0)) ∙ h))
+
+  pub bin-high : (edges : BuiltEdges) → EndsOf edges es first last → le last x ≡ true → none ≡ builtBin edges es x
+  unfolding builtBin regularIndex irregularIndex
+  bin-high (Regular e) ends h = ap (below (e .«n_bins»)) (high-none false (lt x (e .min)) (le (e .max) x) _ (ap (λ (y : Float). le y x) (sym (ends .1)) ∙ h))
+  bin-high Irregular ends h = ap (below (length es - 1)) (high-none (isNan x) (lt x (at es 0)) (le (at es (length es - 1)) x) _ (ap (λ (y : Float). le y x) (sym (ends .1)) ∙ h))
+
+-- ---- a bin whose keys enclose the value's is the value's
+abbrev outside : List Float → Float → Bool
+outside es x = isNan x || lt x (at es 0) || le (at es (length es - 1)) x
+
+and-true : (a b : Bool) → (a && b) ≡ true → (a ≡ true) × (b ≡ true)
+and-true true true h = (refl, refl)
+and-true true false h = absurd (true≢false (sym h))
+and-true false b h = absurd (true≢false (sym h))
+
+-- a key above another is one of the keys
+read-within : (keys : List ℕ) (i k : ℕ) → k < getD keys i 0 → i < length keys
+read-within keys i k h = go (ltb i (length keys)) refl
+  where
+    go : (t : Bool) → ltb i (length keys) ≡ t → i < length keys
+    go true e = ltb-true i (length keys) e
+    go false e = absurd (omega (arith, h, List·getD-eq-default keys 0 (ltb-false i (length keys) e)))
+
+module _ (es : List Float) (x : Float) (f : fits binary64 x ≡ true) (table : Table) (keys : List ℕ) (t : Tabled Irregular es table keys)
+    (g : ℕ) (c : encloses (length es - 1) keys (orderKey x) g ≡ true) where
+  tests : (g < length es - 1) × (getD keys g 0 ≤ orderKey x) × (orderKey x < getD keys (g + 1) 0)
+  unfolding encloses
+  tests =
+      let p = and-true (ltb g (length es - 1) && leb (getD keys g 0) (orderKey x)) (ltb (orderKey x) (getD keys (g + 1) 0)) c in
+      let q = and-true (ltb g (length es - 1)) (leb (getD keys g 0) (orderKey x)) (p .0) in
+      (ltb-true _ _ (q .0), leb-true _ _ (q .1), ltb-true _ _ (p .1))
+
+  read : g + 1 < length keys
+  read = read-within keys (g + 1) (orderKey x) (tests .2)
+
+  below-all : (i : ℕ) → i < g + 1 → notAfter (at es i) x ≡ true
+  below-all i h =
+      let s = sorted es (t .usable .held) (t .usable .finite) (t .usable .increasing) i g (omega arith) (omega (arith, tests .0)) in
+      let k = t .keyed g (omega (arith, read)) in
+      key-order (at es i) x (t .usable .held i) (subst T (sym f) tt) ∙ le-leb (orderKey (at es i)) (orderKey x) (omega (arith, s, k, tests .1))
+
+  above-all : (i : ℕ) → g + 1 ≤ i → i < length es → notAfter (at es i) x ≡ false
+  above-all i h m =
+      let s = sorted es (t .usable .held) (t .usable .finite) (t .usable .increasing) (g + 1) i h m in
+      let k = t .keyed (g + 1) read in
+      key-order (at es i) x (t .usable .held i) (subst T (sym f) tt) ∙ lt-leb (orderKey (at es i)) (orderKey x) (omega (arith, s, k, tests .2))
+
+  found-edge : some g ≡ lastEdge es x (length es)
+  found-edge =
+      let e : g ≡ g + 1 - 1 = omega arith in
+      ap some e ∙ halves-at es x (g + 1) (g + 1) (le-refl (g + 1)) (le-refl (g + 1)) (omega (arith, tests .0)) above-all below-all (λ z. absurd (omega (arith, z)))
+
+  found-bin-is : outside es x ≡ false → some g ≡ builtBin Irregular es x
+  unfolding builtBin irregularIndex
+  found-bin-is v = rw (v, ← found-edge, lt-ltb g (length es - 1) (tests .0))
+
+-- ---- any guess is right or refused
+module _ (es : List Float) (x : Float) (f : fits binary64 x ≡ true) (table : Table) (keys : List ℕ) (t : Tabled Irregular es table keys) where
+  tried : outside es x ≡ false → (g : ℕ) (o : Option ℕ) → o ≡ builtBin Irregular es x → cond (encloses (length es - 1) keys (orderKey x) g) (some g) o ≡ builtBin Irregular es x
+  tried v g o e = go (encloses (length es - 1) keys (orderKey x) g) refl
+    where
+      go : (b : Bool) → encloses (length es - 1) keys (orderKey x) g ≡ b → cond b (some g) o ≡ builtBin Irregular es x
+      go true c = found-bin-is es x f table keys t g c v
+      go false c = e
+
+  guessed-bin : (h : ℕ) → cond (isNan x || lt x (table .first) || le (table .last) x) none (triedBin es keys h x) ≡ builtBin Irregular es x
+  unfolding triedBin builtBin irregularIndex
+  guessed-bin h = rw (t .ends .0, t .ends .1) (go (outside es x) refl)
+    where
+      go : (b : Bool) → outside es x ≡ b → cond b none (triedBin es keys h x) ≡ below (length es - 1) (cond b none (lastEdge es x (length es)))
+      go true v = refl
+      go false v = tried v h _ (tried v (searched (length es - 1) keys (orderKey x)) _ refl) ∙ rw v
+
+pub table-bin : (edges : BuiltEdges) (es : List Float) (keys hints : List ℕ) (table : Table) (x : Float) → Tabled edges es table keys → fits binary64 x ≡ true
+    → tableBin edges es keys hints table x ≡ builtBin edges es x
+unfolding tableBin keyedBin
+table-bin (Regular e) es keys hints table x t f = refl
+table-bin Irregular es keys hints table x t f = guessed-bin es x f table keys t (guessed keys hints table x)
+
+-- o is what `bin_of` returned
+pub found-bin : (edges : BuiltEdges) (es : List Float) (keys hints : List ℕ) (table : Table) (x : Float) (o : Option ℕ) → o ≡ tableBin edges es keys hints table x → Tabled edges es table keys
+    → fits binary64 x ≡ true → o ≡ builtBin edges es x
+found-bin edges es keys hints table x o e t f = e ∙ table-bin edges es keys hints table x t f
+
+-- q is what `consume` left
+module _ (es : List Float) (keys hints : List ℕ) (table : Table) (d : Datum) where
+  table-value : (r : Reducer) → TabledValues r es table keys → tableValueBin r es keys hints table d ≡ valueBin r es d
+  table-value Comp0Mean t = refl
+  table-value ComponentSumMean t = refl
+  table-value (ComponentSumHistogram e) t = table-bin e es keys hints table (componentSum d) t (fitting (d .c0) (add binary64 (d .c1) (d .c2)))
+    where
+      flag : (b : Bool) → T b → b ≡ true
+      flag true h = refl
+      flag false h = absurd h
+
+      fitting : (a b : Float) → fits binary64 (add binary64 a b) ≡ true
+      fitting a b = flag _ (add-fits binary64 a b)
+
+  pub table-consumed : (r : Reducer) (n s : ℕ) (p q : List Float) → TabledValues r es table keys → q ≡ tableConsumed r es keys hints table n s d p → q ≡ consumed r es n s d p
+  unfolding tableConsumed
+  table-consumed r n s p q t e = e ∙ ap (λ (o : Option ℕ). consumedAt r (length es) o n s d p) (table-value r t) ∙ sym (consumed-found r es n s d p)
+
+-- ---- what the table's makers leave
+keys-length : (es : List Float) (n : ℕ) (keys : List ℕ) → length (keysTo es n keys) ≡ length keys
+unfolding keysTo
+keys-length es zero keys = refl
+keys-length es (suc n) keys = length-set (keysTo es n keys) n (orderKey (at es n)) ∙ keys-length es n keys
+
+keys-at : (es : List Float) (n : ℕ) (keys : List ℕ) (i : ℕ) → i < n → i < length keys → getD (keysTo es n keys) i 0 ≡ orderKey (at es i)
+unfolding keysTo
+keys-at es zero keys i h l = absurd (omega arith)
+keys-at es (suc n) keys i h l =
+    ⊎-elim (λ (z : i ≡ n). ap (λ (y : ℕ). getD (set (keysTo es n keys) n (orderKey (at es n))) y 0) z ∙ getD-set-same (keysTo es n keys) n (orderKey (at es n)) 0 (omega (arith, keys-length es n keys))
+    ∙ sym (ap (λ (y : ℕ). orderKey (at es y)) z))
+    (λ (z : i < n). getD-set-other (keysTo es n keys) n i (orderKey (at es n)) 0 (λ (y : i ≡ n). lt-irrefl n (subst (λ (a : ℕ). a < n) y z)) ∙ keys-at es n keys i z l)
+    (eq-or-lt-of-le (omega arith))
+
+keys-are : (es : List Float) (k₀ : List ℕ) → Keys (keysOf es k₀) es
+unfolding keysOf
+keys-are es k₀ i h = keys-at es (length k₀) k₀ i (omega (arith, keys-length es (length k₀) k₀)) (omega (arith, keys-length es (length k₀) k₀))
+
+module _ (es : List Float) (span : Float) (table : Table) (k₀ keys : List ℕ) where
+  ends-are : (edges : BuiltEdges) → EndsOf edges es (tableOf edges es span .first) (tableOf edges es span .last)
+  ends-are (Regular e) = (refl, refl)
+  ends-are Irregular = (refl, refl)
+
+  pub tabled : (edges : BuiltEdges) → Usable edges es → table ≡ tableOf edges es span → keys ≡ keysOf es k₀ → Tabled edges es table keys
+  tabled edges u e f = rw (e, f) (record { usable = u; ends = ends-are edges; keyed = keys-are es k₀ })
+
+  pub tabled-values : (r : Reducer) → UsableValues r es → table ≡ valueTableOf r es span → keys ≡ keysOf es k₀ → TabledValues r es table keys
+  tabled-values Comp0Mean u e f = tt
+  tabled-values ComponentSumMean u e f = tt
+  tabled-values (ComponentSumHistogram e) u g f = tabled e u g f
+
+-- ---- accepted edges
+accepted : (a b f g : Bool) → _≡_ {A = ℕ} (cond a 7 (cond b 12 (cond (not f) 10 (cond (not g) 13 0)))) 0 → (a ≡ false) × (b ≡ false) × T f × T g
+accepted false false true true h = (refl, refl, tt, tt)
+accepted true b f g h = absurd (omega arith)
+accepted false true f g h = absurd (omega arith)
+accepted false false false g h = absurd (omega arith)
+accepted false false true false h = absurd (omega arith)
+
+module _ (es : List Float) (w : (i : ℕ) → T (fits binary64 (at es i))) where
+  pub usable-made : (e : Edges) → refusal (edgesCallRules (edgesOf e es)) ≡ 0 → Usable (madeEdges e) es
+  unfolding definitions.bins
+  usable-made (edges.Regular min max n) h = tt
+  usable-made edges.Irregular h =
+      let a = accepted (ltb 256 (length es - 1)) (ltb (length es) 2) (allFinite es) (increasing es) h in
+      record { held = w; two = ltb-false _ _ (a .1); few = omega (arith, ltb-false 256 (length es - 1) (a .0)); finite = a .2; increasing = a .3 }
+
+  -- the rules of value edges are those of edges
+  pub usable-values-made : (k : Kind) → refusal (rule 7 (overState (stateKind (kindOf k es))) ∷ kindRules (kindOf k es)) ≡ 0 → UsableValues (made k) es
+  usable-values-made kinds.Comp0Mean h = tt
+  usable-values-made kinds.ComponentSumMean h = tt
+  usable-values-made (kinds.ComponentSumHistogram e) h = usable-made e h

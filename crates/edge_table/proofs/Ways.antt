@@ -1,0 +1,265 @@
+-- Each way through the code, and the definition that its answer meets.
+use mathlib.Core.Path.{_≡_, refl, sym, ap, _∙_}
+use mathlib.Core.Option.{Option, none, some}
+use mathlib.Core.Bool.{Bool, true, false, _&&_}
+use mathlib.Core.List.{List}
+use Prim.Native.Nat.{ℕ, suc, _+_, _-_, _*_, _/_, _%_, _^_, _<_, _≤_, zero-le}
+use native.Mathlib.Nat.{zero-mul, one-mul}
+use native.Mathlib.Numerals.{add-one}
+use native.Mathlib.Omega.{arith}
+use lib.Dec.{leb, ltb}
+use lib.ListN.{length, getD, set, List·getD-eq-default}
+use lib.Ieee.{Float, lt, le, isNan, binary64, sub, div, ofBits, toBits}
+use borrow.Author.Tests.{lt-ltb, le-ltb, le-leb, lt-leb, ltb-true, ltb-false}
+use Rattle.definitions.specs.Lists.{at}
+use Rattle.definitions.specs.Reducer as definitions
+use Rattle.definitions.specs.Reducer.{componentSum}
+use Rattle.floats.specs.Order.{orderKey}
+use Rattle.floats.proofs.Keys.{key-plus, key-minus}
+use Rattle.bins.specs.declared.RegularBinEdges.{RegularBinEdges}
+use Rattle.bins.specs.declared.BinIndex.{BinIndex}
+use Rattle.bins.specs.Answers.{indexOf}
+use Rattle.reducer.specs.declared.BuiltEdges.{BuiltEdges}
+use Rattle.reducer.specs.declared.BuiltEdges.the-variants.{Regular, Irregular}
+use Rattle.reducer.specs.declared.Reducer.{Reducer}
+use Rattle.reducer.specs.declared.Reducer.the-variants.{Comp0Mean, ComponentSumMean, ComponentSumHistogram}
+use Rattle.reducer.specs.Consume.{builtBin, consumedAt}
+use Rattle.edge_table.specs.declared.Table.{Table}
+use Rattle.edge_table.specs.Table.{keysTo, keysOf, tableOf, placeOf, endOf, spread, binHinted, hintsOf, bit, rise, among32, searched, encloses, nudged, guessed, triedBin, keyedBin, tableBin, valueTableOf, tableValueBin, tableConsumed}
+
+-- ---- keys
+module _ (list : List Float) (keys : List ℕ) where
+  pub keys-none : keys ≡ keysTo list 0 keys
+  unfolding keysTo
+  keys-none = refl
+
+  pub keys-next : (i : ℕ) (q : List ℕ) (x : Float) (k : ℕ) → x ≡ at list i → k ≡ orderKey x → q ≡ keysTo list i keys → set q i k ≡ keysTo list (i + 1) keys
+  unfolding keysTo
+  keys-next i q x k e h inv = rw (add-one, ← e, ← h, ← inv)
+
+  pub keys-done : (i : ℕ) (q : List ℕ) → i ≤ length keys → length q ≡ length keys → length q ≤ i → q ≡ keysTo list i keys → q ≡ keysOf list keys
+  unfolding keysOf
+  keys-done i q h l k inv =
+      let z : i ≡ length keys = omega arith in
+      inv ∙ ap (λ (a : ℕ). keysTo list a keys) z
+
+-- ---- hints
+module _ (q m : ℕ) where
+  pub end-within : q < m → q + 1 ≡ endOf q m
+  unfolding endOf
+  end-within h = rw (lt-ltb q m h)
+
+  pub end-past : m ≤ q → m ≡ endOf q m
+  unfolding endOf
+  end-past h = rw (le-ltb q m h)
+
+module _ (p b : ℕ) (hints : List ℕ) where
+  pub spread-none : hints ≡ spread p b (p - p) hints
+  unfolding spread
+  spread-none =
+      let z : 0 ≡ p - p = omega arith in
+      ap (λ (n : ℕ). spread p b n hints) z
+
+  pub spread-next : (i : ℕ) (q : List ℕ) → p ≤ i → q ≡ spread p b (i - p) hints → set q i b ≡ spread p b (i + 1 - p) hints
+  unfolding spread
+  spread-next i q h inv =
+      let z : suc (i - p) ≡ i + 1 - p = omega arith in
+      let y : i ≡ p + (i - p) = omega arith in
+      (λ j. set (inv j) (y j) b) ∙ ap (λ (n : ℕ). spread p b n hints) z
+
+  pub spread-done : (i end : ℕ) (q : List ℕ) → end ≤ i → i - p ≤ end - p → q ≡ spread p b (i - p) hints → q ≡ spread p b (end - p) hints
+  spread-done i end q h k inv =
+      let z : i - p ≡ end - p = omega arith in
+      inv ∙ ap (λ (n : ℕ). spread p b n hints) z
+
+-- p, q and e are the calls' answers
+pub hinted-is : (table : Table) (list : List Float) (b p q e : ℕ) (hints r : List ℕ) → p ≡ placeOf table (at list b) → q ≡ placeOf table (at list (b + 1)) → e ≡ endOf q (length hints)
+    → r ≡ spread (p + 1) (b % 256) (e - (p + 1)) hints → r ≡ binHinted table list b hints
+unfolding binHinted
+hinted-is table list b p q e hints r x y z f = rw (← x, ← y, ← z) f
+
+module _ (table : Table) (list : List Float) (hints : List ℕ) where
+  pub hints-none : hints ≡ hintsOf table list 0 hints
+  unfolding hintsOf
+  hints-none = refl
+
+  pub hints-next : (b : ℕ) (l q : List ℕ) → q ≡ binHinted table list b l → l ≡ hintsOf table list b hints → q ≡ hintsOf table list (b + 1) hints
+  unfolding hintsOf
+  hints-next b l q e inv = rw (add-one, ← inv) e
+
+  pub hints-done : (b n : ℕ) (q : List ℕ) → n ≡ length list - 1 → b ≤ n → n ≤ b → q ≡ hintsOf table list b hints → q ≡ hintsOf table list (length list - 1) hints
+  hints-done b n q e h k inv =
+      let z : b ≡ length list - 1 = omega arith in
+      inv ∙ ap (λ (a : ℕ). hintsOf table list a hints) z
+
+-- ---- lookups
+-- what the sign takes from a key, of the bits b
+module _ (b : ℕ) (h : b ≤ 2 ^ 64 - 1) where
+  taken-plus : b < 2 ^ 63 → b / 2 ^ 63 * (2 * (b % 2 ^ 63) + 1) ≡ 0
+  taken-plus l =
+      let z : b / 2 ^ 63 ≡ 0 = omega arith in
+      ap (λ (n : ℕ). n * (2 * (b % 2 ^ 63) + 1)) z ∙ zero-mul _
+
+  taken-minus : 2 ^ 63 ≤ b → b / 2 ^ 63 * (2 * (b % 2 ^ 63) + 1) ≡ 2 * (b % 2 ^ 63) + 1
+  taken-minus l =
+      let z : b / 2 ^ 63 ≡ 1 = omega arith in
+      ap (λ (n : ℕ). n * (2 * (b % 2 ^ 63) + 1)) z ∙ one-mul _
+
+  pub taken-le : b / 2 ^ 63 * (2 * (b % 2 ^ 63) + 1) ≤ 2 ^ 63 + b % 2 ^ 63
+  taken-le = go (ltb b (2 ^ 63)) refl
+    where
+      go : (t : Bool) → ltb b (2 ^ 63) ≡ t → b / 2 ^ 63 * (2 * (b % 2 ^ 63) + 1) ≤ 2 ^ 63 + b % 2 ^ 63
+      go true e = omega (arith, taken-plus (ltb-true b (2 ^ 63) e))
+      go false e = omega (arith, taken-minus (ltb-false b (2 ^ 63) e))
+
+  pub key-is : (x : Float) → b ≡ toBits binary64 x → 2 ^ 63 + b % 2 ^ 63 - b / 2 ^ 63 * (2 * (b % 2 ^ 63) + 1) ≡ orderKey x
+  key-is x q = go (ltb b (2 ^ 63)) refl
+    where
+      go : (t : Bool) → ltb b (2 ^ 63) ≡ t → 2 ^ 63 + b % 2 ^ 63 - b / 2 ^ 63 * (2 * (b % 2 ^ 63) + 1) ≡ orderKey x
+      go true e =
+          let l : b < 2 ^ 63 = ltb-true b (2 ^ 63) e in
+          omega (arith, taken-plus l, key-plus x (omega arith))
+      go false e =
+          let l : 2 ^ 63 ≤ b = ltb-false b (2 ^ 63) e in
+          omega (arith, taken-minus l, key-minus x (omega arith))
+
+module _ (hints : List ℕ) (p q : ℕ) (e : q ≡ p) where
+  pub hint-is : getD hints q 0 ≡ getD hints p 0
+  hint-is = ap (λ (i : ℕ). getD hints i 0) e
+
+  pub hint-none : length hints ≤ q → 0 ≡ getD hints p 0
+  hint-none h = sym (List·getD-eq-default hints 0 h) ∙ hint-is
+
+pub bit-times : (w : ℕ) (t : Bool) → w * bit t ≤ w
+bit-times w true = omega arith
+bit-times w false = omega arith
+
+false-last : (a : Bool) → false ≡ (a && false)
+false-last true = refl
+false-last false = refl
+
+module _ (n : ℕ) (keys : List ℕ) (k b : ℕ) where
+  pub enclosed-past : n ≤ b → false ≡ encloses n keys k b
+  unfolding encloses
+  enclosed-past h = rw (le-ltb b n h)
+
+  pub enclosed-missing : length keys ≤ b + 1 → false ≡ encloses n keys k b
+  unfolding encloses
+  enclosed-missing h = rw (List·getD-eq-default keys 0 h, le-ltb k 0 zero-le) (false-last (ltb b n && leb (getD keys b 0) k))
+
+  pub enclosed-above : b < n → k < getD keys b 0 → false ≡ encloses n keys k b
+  unfolding encloses
+  enclosed-above h l = rw (lt-ltb b n h, lt-leb (getD keys b 0) k l)
+
+  pub enclosed-is : b < n → getD keys b 0 ≤ k → ltb k (getD keys (b + 1) 0) ≡ encloses n keys k b
+  unfolding encloses
+  enclosed-is h l = rw (lt-ltb b n h, le-leb (getD keys b 0) k l)
+
+pub ruleset enclosed = (enclosed-past, enclosed-missing, enclosed-above, enclosed-is)
+
+module _ (keys : List ℕ) (k : ℕ) where
+  pub among-is : (b c d e f r : ℕ) → c ≡ rise keys k 16 b → d ≡ rise keys k 8 c → e ≡ rise keys k 4 d → f ≡ rise keys k 2 e → r ≡ rise keys k 1 f → r ≡ among32 keys k b
+  unfolding among32
+  among-is b c d e f r p q s t u = rw (← p, ← q, ← s, ← t) u
+
+  module _ (n : ℕ) where
+    pub searched-short : length keys < 32 → 0 ≡ searched n keys k
+    unfolding searched
+    searched-short h = rw (lt-ltb (length keys) 32 h)
+
+    module _ (l : 32 ≤ length keys) where
+      pub searched-few : (r : ℕ) → n ≤ 32 → r ≡ among32 keys k 0 → r ≡ searched n keys k
+      unfolding searched
+      searched-few r h e = rw (le-ltb (length keys) 32 l, le-leb n 32 h) e
+
+      pub searched-missing : 32 < n → length keys < 256 → 0 ≡ searched n keys k
+      unfolding searched
+      searched-missing h m = rw (le-ltb (length keys) 32 l, lt-leb n 32 h, lt-ltb (length keys) 256 m)
+
+      pub searched-many : (c d e r : ℕ) → 32 < n → 256 ≤ length keys → c ≡ rise keys k 128 0 → d ≡ rise keys k 64 c → e ≡ rise keys k 32 d → r ≡ among32 keys k e → r ≡ searched n keys k
+      unfolding searched
+      searched-many c d e r h m p q s t = rw (le-ltb (length keys) 32 l, lt-leb n 32 h, le-ltb (length keys) 256 m, ← p, ← q, ← s) t
+
+  pub nudged-within : (h r : ℕ) → h + 1 < length keys → r ≡ rise keys k 1 h → r ≡ nudged keys k h
+  unfolding nudged
+  nudged-within h r l e = rw (lt-ltb (h + 1) (length keys) l) e
+
+  pub nudged-past : (h : ℕ) → length keys ≤ h + 1 → h ≡ nudged keys k h
+  unfolding nudged
+  nudged-past h l = rw (le-ltb (h + 1) (length keys) l)
+
+pub guessed-is : (keys hints : List ℕ) (table : Table) (x : Float) (h k r : ℕ) → h ≡ getD hints (placeOf table x) 0 → k ≡ orderKey x → r ≡ nudged keys k h → r ≡ guessed keys hints table x
+unfolding guessed
+guessed-is keys hints table x h k r p q e = rw (← p, ← q) e
+
+-- s and u are the answers of `is_enclosed`, g of `search`
+module _ (list : List Float) (keys : List ℕ) (h : ℕ) (x : Float) (n k : ℕ) (m : n ≡ length list - 1) (l : k ≡ orderKey x) (s : Bool) (e : s ≡ encloses n keys k h) where
+  pub tried-guess : s ≡ true → some h ≡ triedBin list keys h x
+  unfolding triedBin
+  tried-guess t = rw (← m, ← l, ← e, t)
+
+  module _ (t : s ≡ false) (g : ℕ) (v : g ≡ searched n keys k) (u : Bool) (w : u ≡ encloses n keys k g) where
+    pub tried-search : u ≡ true → some g ≡ triedBin list keys h x
+    unfolding triedBin
+    tried-search y = rw (← m, ← l, ← e, t, ← v, ← w, y)
+
+    pub tried-plain : (o : Option ℕ) → u ≡ false → o ≡ builtBin Irregular list x → o ≡ triedBin list keys h x
+    unfolding triedBin
+    tried-plain o y z = rw (← m, ← l, ← e, t, ← v, ← w, y) z
+
+module _ (list : List Float) (keys hints : List ℕ) (table : Table) (x : Float) (r : Bool) (q : r ≡ isNan x) where
+  pub keyed-nan : r ≡ true → none ≡ keyedBin list keys hints table x
+  unfolding keyedBin
+  keyed-nan t = rw (← q, t)
+
+  module _ (a : r ≡ false) where
+    pub keyed-low : lt x (table .first) ≡ true → none ≡ keyedBin list keys hints table x
+    unfolding keyedBin
+    keyed-low t = rw (← q, a, t)
+
+    module _ (b : lt x (table .first) ≡ false) where
+      pub keyed-high : le (table .last) x ≡ true → none ≡ keyedBin list keys hints table x
+      unfolding keyedBin
+      keyed-high t = rw (← q, a, b, t)
+
+      pub keyed-inside : (h : ℕ) (o : Option ℕ) → le (table .last) x ≡ false → h ≡ guessed keys hints table x → o ≡ triedBin list keys h x → o ≡ keyedBin list keys hints table x
+      unfolding keyedBin
+      keyed-inside h o c e f = rw (← q, a, b, c, ← e) f
+
+module _ (edges : BuiltEdges) (list : List Float) (keys hints : List ℕ) (table : Table) (x : Float) (o : Option ℕ) where
+  pub bin-regular : (e : RegularBinEdges) → edges ≡ Regular e → o ≡ builtBin edges list x → o ≡ tableBin edges list keys hints table x
+  unfolding tableBin
+  bin-regular e t h = h ∙ (rw t)
+
+  pub bin-irregular : edges ≡ Irregular → o ≡ keyedBin list keys hints table x → o ≡ tableBin edges list keys hints table x
+  unfolding tableBin
+  bin-irregular t e = e ∙ (rw t)
+
+-- ---- tables
+module _ (edges : BuiltEdges) (list : List Float) (span : Float) where
+  pub table-regular : (e : RegularBinEdges) → edges ≡ Regular e → record { first = e .min; last = e .max; scale = ofBits binary64 0 } ≡ tableOf edges list span
+  table-regular e t = rw t
+
+  pub table-irregular : (n : ℕ) (a b : Float) → edges ≡ Irregular → n ≡ length list - 1 → a ≡ at list 0 → b ≡ at list n
+      → record { first = a; last = b; scale = div binary64 span (sub binary64 b a) } ≡ tableOf edges list span
+  table-irregular n a b t e f g = rw (t, f, g, e)
+
+-- ---- value edges
+module _ (r : Reducer) (list : List Float) where
+  pub table-histogram : (span : Float) (e : BuiltEdges) (t : Table) → r ≡ ComponentSumHistogram e → t ≡ tableOf e list span → t ≡ valueTableOf r list span
+  table-histogram span e t h k = rw h k
+
+module _ (r : Reducer) (list : List Float) (keys hints : List ℕ) (table : Table) (d : definitions.Datum) where
+  pub value-comp0 : r ≡ Comp0Mean → none ≡ tableValueBin r list keys hints table d
+  value-comp0 e = rw e
+
+  pub value-sum : r ≡ ComponentSumMean → none ≡ tableValueBin r list keys hints table d
+  value-sum e = rw e
+
+  pub value-histogram : (k : BuiltEdges) (v : Float) (o : Option ℕ) → r ≡ ComponentSumHistogram k → v ≡ componentSum d → o ≡ tableBin k list keys hints table v → o ≡ tableValueBin r list keys hints table d
+  value-histogram k v o e c f = rw e (f ∙ ap (tableBin k list keys hints table) c)
+
+  pub consumed-is : (b : BinIndex) (n s : ℕ) (p q : List Float) → indexOf b ≡ tableValueBin r list keys hints table d → q ≡ consumedAt r (length list) (indexOf b) n s d p
+      → q ≡ tableConsumed r list keys hints table n s d p
+  unfolding tableConsumed
+  consumed-is b n s p q e f = f ∙ ap (λ (o : Option ℕ). consumedAt r (length list) o n s d p) e

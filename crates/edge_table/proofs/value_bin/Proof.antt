@@ -1,0 +1,53 @@
+use borrow.Author.Needs.{needs}
+use Rattle.edge_table.proofs.Ways.{value-comp0, value-sum, value-histogram}
+use Rattle.edge_table.proofs.value_bin.Statement.{statement}
+use Rattle.edge_table.proofs.value_bin.Tie as tie
+use Rattle.edge_table.proofs.value_bin.Reads as reads
+use Rattle.edge_table.proofs.value_bin.Lts as lts
+use Rattle.edge_table.proofs.bin_of.Reads as bin-of-reads
+use Rattle.reducer.proofs.component_sum.Reads as component-sum-reads
+
+-- src/lib.rt:272:31
+enum-told : tie.Need-enum-told
+enum-told c = search needs
+
+-- src/lib.rt:273:38
+enum-told-2 : tie.Need-enum-told-2
+enum-told-2 c = search needs
+
+-- src/lib.rt:274:40
+enum-known-reducer : tie.Need-enum-known-reducer
+enum-known-reducer c = search needs
+
+-- src/lib.rt:275:17
+component-sum-requires : tie.Need-component-sum-requires
+component-sum-requires c κs = search needs
+
+-- src/lib.rt:276:13
+bin-of-requires : tie.Need-bin-of-requires
+bin-of-requires c κs = search needs
+
+-- src/lib.rt:261:1
+returns : tie.Need-returns
+returns c = search value-comp0
+
+-- src/lib.rt:261:1
+returns-2 : tie.Need-returns-2
+returns-2 c = search value-sum
+
+-- src/lib.rt:261:1
+returns-3 : tie.Need-returns-3
+returns-3 c = search value-histogram
+
+pub value-bin-spec : {M : Type 1} → statement M
+value-bin-spec =
+    tie.close
+    (tie.spec
+    enum-told
+    enum-told-2
+    enum-known-reducer
+    component-sum-requires
+    bin-of-requires
+    returns
+    returns-2
+    returns-3)

@@ -1,0 +1,322 @@
+// Lookups in edges by a table: keys and hints are made once, and each lookup tries a hint's bin, then a search by halves. A guess is tested, so nothing rests on it.
+use bins::BinIndex;
+use reducer::BuiltEdges;
+use reducer::Datum;
+use reducer::Reducer;
+ghost use mathlib.Core.Path.{_≡_};
+ghost use Prim.Native.Nat.{_+_, _-_, _≤_, _<_};
+ghost use lib.ListN.{length, getD};
+ghost use Rattle.definitions.specs.Lists.{at};
+ghost use Rattle.floats.specs.Order.{orderKey};
+ghost use Rattle.bins.specs.Answers.{indexOf};
+ghost use Rattle.reducer.specs.Readings.{theDatum};
+ghost use Rattle.edge_table.specs.Table.{keysOf, tableOf, placeOf, endOf, spread, binHinted, hintsOf, rise, among32, searched, encloses, nudged, guessed, triedBin, keyedBin, tableBin, noTable, valueTableOf, tableValueBin, tableConsumed};
+
+// Ends of the edges, and places of hints a unit of the value.
+pub struct Table {
+    pub first: f64,
+    pub last: f64,
+    pub scale: f64,
+}
+
+// ---- tables
+
+// An edge; a NaN where there is none.
+fn edge_at(list: &[f64], i: usize) -> f64
+    ensures { λ r. ⌜ r ≡ at (now (list .entry)) i ⌝ }
+{
+    if i < list.len() { list[i] } else { 0.0 / 0.0 }
+}
+
+// The key of each edge, then NaNs' keys.
+pub fn keys_of(list: &[f64], keys: &mut [u64])
+    ensures { λ _. ⌜ now (keys .exit) ≡ keysOf (now (list .entry)) (now (keys .entry)) ⌝ }
+{
+    let mut i = 0;
+    while i < keys.len() {
+        keys[i] = floats::total_key(edge_at(list, i));
+        i += 1;
+    }
+}
+
+// span is how many places of hints the edges take.
+pub fn table_of(edges: BuiltEdges, list: &[f64], span: f64) -> Table
+    ensures { λ r. ⌜ r ≡ tableOf edges (now (list .entry)) span ⌝ }
+{
+    match edges {
+        BuiltEdges::Regular(e) => Table {
+            first: e.min,
+            last: e.max,
+            scale: 0.0,
+        },
+        BuiltEdges::Irregular => {
+            let n = reducer::n_bins(BuiltEdges::Irregular, list.len());
+            let first = edge_at(list, 0);
+            let last = edge_at(list, n);
+            Table {
+                first,
+                last,
+                scale: span / (last - first),
+            }
+        }
+    }
+}
+
+// ---- hints
+
+// Adding 2^52 rounds to a whole number, which the low bits then hold.
+fn place_of(table: Table, value: f64) -> usize
+    ensures { λ r. ⌜ (r ≡ placeOf table value) × (r < 4096) ⌝ }
+{
+    let x = (value - table.first) * table.scale + 4503599627370496.0;
+    (floats::to_bits(x) % 4096) as usize
+}
+
+fn end_of(q: usize, len: usize) -> usize
+    ensures { λ r. ⌜ (r ≡ endOf q len) × (r ≤ len) ⌝ }
+{
+    if q < len { q + 1 } else { len }
+}
+
+// b at the places from p up to the end.
+fn spread_hint(p: usize, b: u8, end: usize, hints: &mut [u8])
+    requires { ⌜ end ≤ length (now hints) ⌝ }
+    ensures { λ _. ⌜ now (hints .exit) ≡ spread p b (end - p) (now (hints .entry)) ⌝ }
+{
+    let mut i = p;
+    while i < end {
+        hints[i] = b;
+        i += 1;
+    }
+}
+
+// Bin b at the places after its lower edge's up to its upper edge's.
+fn hint_bin(list: &[f64], table: Table, b: usize, hints: &mut [u8])
+    requires { ⌜ b + 1 < length (now list) ⌝ }
+    ensures { λ _. ⌜ now (hints .exit) ≡ binHinted table (now (list .entry)) b (now (hints .entry)) ⌝ }
+{
+    let p = place_of(table, list[b]) + 1;
+    let q = place_of(table, list[b + 1]);
+    let end = end_of(q, hints.len());
+    spread_hint(p, (b % 256) as u8, end, hints);
+}
+
+// The hint at a place is the bin of the place's lowest value; the first place stays.
+pub fn fill_hints(list: &[f64], table: Table, hints: &mut [u8])
+    ensures { λ _. ⌜ now (hints .exit) ≡ hintsOf table (now (list .entry)) (length (now (list .entry)) - 1) (now (hints .entry)) ⌝ }
+{
+    let n = reducer::n_bins(BuiltEdges::Irregular, list.len());
+    let mut b = 0;
+    while b < n {
+        hint_bin(list, table, b, hints);
+        b += 1;
+    }
+}
+
+// ---- lookups
+
+// The order key without a branch on the sign, which may change from value to value.
+fn key_of(x: f64) -> u64
+    ensures { λ r. ⌜ r ≡ orderKey x ⌝ }
+{
+    let bits = floats::to_bits(x);
+    let low = bits % 0x8000_0000_0000_0000;
+    0x8000_0000_0000_0000 + low - (bits / 0x8000_0000_0000_0000) * (2 * low + 1)
+}
+
+// The hint at the value's place; 0 where there is none.
+fn hint_at(hints: &[u8], table: Table, value: f64) -> usize
+    ensures { λ r. ⌜ (r ≡ getD (now (hints .entry)) (placeOf table value) 0) × (r ≤ 255) ⌝ }
+{
+    let q = place_of(table, value);
+    if q < hints.len() {
+        return hints[q] as usize;
+    }
+    0
+}
+
+// w up from b where that key is not above the value's; without a branch.
+fn rise_by(keys: &[u64], key: u64, w: usize, b: usize) -> usize
+    requires { ⌜ (b + w < length (now keys)) × (b + w ≤ 256) ⌝ }
+    ensures { λ r. ⌜ (r ≡ rise (now (keys .entry)) key w b) × (r ≤ b + w) ⌝ }
+{
+    b + w * ((keys[b + w] <= key) as usize)
+}
+
+// Five steps: of the 32 bins from b on.
+fn search_32(keys: &[u64], key: u64, b: usize) -> usize
+    requires { ⌜ (b + 31 < length (now keys)) × (b + 31 ≤ 255) ⌝ }
+    ensures { λ r. ⌜ (r ≡ among32 (now (keys .entry)) key b) × (r ≤ b + 31) ⌝ }
+{
+    let c = rise_by(keys, key, 16, b);
+    let d = rise_by(keys, key, 8, c);
+    let e = rise_by(keys, key, 4, d);
+    let f = rise_by(keys, key, 2, e);
+    rise_by(keys, key, 1, f)
+}
+
+// The search by halves in n bins; 0 where keys are missing.
+fn search(n: usize, keys: &[u64], key: u64) -> usize
+    ensures { λ r. ⌜ (r ≡ searched n (now (keys .entry)) key) × (r ≤ 255) ⌝ }
+{
+    if keys.len() < 32 {
+        return 0;
+    }
+    if n <= 32 {
+        return search_32(keys, key, 0);
+    }
+    if keys.len() < 256 {
+        return 0;
+    }
+    let c = rise_by(keys, key, 128, 0);
+    let d = rise_by(keys, key, 64, c);
+    let e = rise_by(keys, key, 32, d);
+    search_32(keys, key, e)
+}
+
+// Whether b is one of n bins and its keys enclose the value's.
+fn is_enclosed(n: usize, keys: &[u64], key: u64, b: usize) -> bool
+    requires { ⌜ b ≤ 256 ⌝ }
+    ensures { λ r. ⌜ r ≡ encloses n (now (keys .entry)) key b ⌝ }
+{
+    if b >= n {
+        return false;
+    }
+    if b + 1 >= keys.len() {
+        return false;
+    }
+    if keys[b] > key {
+        return false;
+    }
+    key < keys[b + 1]
+}
+
+// h, or the bin after it.
+fn nudge(keys: &[u64], key: u64, h: usize) -> usize
+    requires { ⌜ h ≤ 255 ⌝ }
+    ensures { λ r. ⌜ (r ≡ nudged (now (keys .entry)) key h) × (r ≤ 256) ⌝ }
+{
+    if h + 1 < keys.len() {
+        return rise_by(keys, key, 1, h);
+    }
+    h
+}
+
+fn guess(keys: &[u64], hints: &[u8], table: Table, value: f64) -> usize
+    ensures { λ r. ⌜ (r ≡ guessed (now (keys .entry)) (now (hints .entry)) table value) × (r ≤ 256) ⌝ }
+{
+    let h = hint_at(hints, table, value);
+    nudge(keys, key_of(value), h)
+}
+
+// The guess h or the bin that the search finds, where it is right.
+fn tried_bin(list: &[f64], keys: &[u64], h: usize, value: f64) -> BinIndex
+    requires { ⌜ h ≤ 256 ⌝ }
+    ensures { λ r. ⌜ indexOf r ≡ triedBin (now (list .entry)) (now (keys .entry)) h value ⌝ }
+{
+    let n = reducer::n_bins(BuiltEdges::Irregular, list.len());
+    let key = key_of(value);
+    if is_enclosed(n, keys, key, h) {
+        return BinIndex::At(h);
+    }
+    let b = search(n, keys, key);
+    if is_enclosed(n, keys, key, b) {
+        return BinIndex::At(b);
+    }
+    reducer::bin_of(BuiltEdges::Irregular, list, value)
+}
+
+// The bin in irregular edges: the end tests, then by keys.
+fn keyed_bin(list: &[f64], keys: &[u64], hints: &[u8], table: Table, value: f64) -> BinIndex
+    ensures { λ r. ⌜ indexOf r ≡ keyedBin (now (list .entry)) (now (keys .entry)) (now (hints .entry)) table value ⌝ }
+{
+    if floats::is_nan(value) {
+        return BinIndex::None;
+    }
+    if value < table.first {
+        return BinIndex::None;
+    }
+    if table.last <= value {
+        return BinIndex::None;
+    }
+    let h = guess(keys, hints, table, value);
+    tried_bin(list, keys, h, value)
+}
+
+// A bin by the table: the edges' own where keys and table are theirs.
+pub fn bin_of(
+    edges: BuiltEdges,
+    list: &[f64],
+    keys: &[u64],
+    hints: &[u8],
+    table: Table,
+    value: f64,
+) -> BinIndex
+    ensures { λ r. ⌜ indexOf r ≡ tableBin edges (now (list .entry)) (now (keys .entry)) (now (hints .entry)) table value ⌝ }
+{
+    match edges {
+        BuiltEdges::Regular(_) => reducer::bin_of(edges, list, value),
+        BuiltEdges::Irregular => keyed_bin(list, keys, hints, table, value),
+    }
+}
+
+// ---- value edges
+
+// A mean has none.
+pub fn value_table_of(reducer: Reducer, list: &[f64], span: f64) -> Table
+    ensures { λ r. ⌜ r ≡ valueTableOf reducer (now (list .entry)) span ⌝ }
+{
+    match reducer {
+        Reducer::Comp0Mean => no_table(),
+        Reducer::ComponentSumMean => no_table(),
+        Reducer::ComponentSumHistogram(e) => table_of(e, list, span),
+    }
+}
+
+fn no_table() -> Table
+    ensures { λ r. ⌜ r ≡ noTable ⌝ }
+{
+    Table {
+        first: 0.0,
+        last: 0.0,
+        scale: 0.0,
+    }
+}
+
+fn value_bin(
+    reducer: Reducer,
+    list: &[f64],
+    keys: &[u64],
+    hints: &[u8],
+    table: Table,
+    datum: Datum,
+) -> BinIndex
+    ensures { λ r. ⌜ indexOf r ≡ tableValueBin reducer (now (list .entry)) (now (keys .entry)) (now (hints .entry)) table (theDatum datum) ⌝ }
+{
+    match reducer {
+        Reducer::Comp0Mean => BinIndex::None,
+        Reducer::ComponentSumMean => BinIndex::None,
+        Reducer::ComponentSumHistogram(e) => {
+            let value = reducer::component_sum(datum);
+            bin_of(e, list, keys, hints, table, value)
+        }
+    }
+}
+
+// `reducer::consume` with the value looked up by a table.
+pub fn consume(
+    reducer: Reducer,
+    value_edges: &[f64],
+    keys: &[u64],
+    hints: &[u8],
+    table: Table,
+    n_states: usize,
+    s: usize,
+    datum: Datum,
+    pack: &mut [f64],
+)
+    ensures { λ _. ⌜ now (pack .exit) ≡ tableConsumed reducer (now («value_edges» .entry)) (now (keys .entry)) (now (hints .entry)) table «n_states» s (theDatum datum) (now (pack .entry)) ⌝ }
+{
+    let found = value_bin(reducer, value_edges, keys, hints, table, datum);
+    reducer::consume_at(reducer, value_edges.len(), found, n_states, s, datum, pack);
+}
