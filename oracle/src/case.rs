@@ -25,6 +25,8 @@ pub enum Form {
     Histogram,
 }
 
+pub const FORMS: [Form; 3] = [Form::Comp0Mean, Form::SumMean, Form::Histogram];
+
 /// A kind as the pack operations take it; `value_bins` counts for a histogram alone.
 #[derive(Clone, Copy)]
 pub struct Kind {
@@ -201,6 +203,23 @@ impl Case {
             Case::Points(x) => 7 + x.b.is_some() as usize,
             Case::Blocks(x) => 9 + x.b.is_some() as usize,
             Case::Offsets(x) => 11 + x.b.is_some() as usize,
+        }
+    }
+
+    /// What a run takes beside its data.
+    pub fn rest(&self) -> Option<&Rest> {
+        match self {
+            Case::Points(x) => Some(&x.rest),
+            Case::Blocks(x) => Some(&x.rest),
+            _ => None,
+        }
+    }
+
+    pub fn rest_mut(&mut self) -> Option<&mut Rest> {
+        match self {
+            Case::Points(x) => Some(&mut x.rest),
+            Case::Blocks(x) => Some(&mut x.rest),
+            _ => None,
         }
     }
 }

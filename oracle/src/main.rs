@@ -1,17 +1,5 @@
 //! The Rust oracle against a plain model of document 01, and the fixed list made from both.
-mod answer;
-mod ask;
-mod case;
-mod compare;
-mod differences;
-mod list;
-mod make;
-mod model;
-mod read;
-mod rng;
-mod show;
-mod words;
-
+use harness::{ask, compare, list, show};
 use std::path::Path;
 use std::process::ExitCode;
 

@@ -1,6 +1,7 @@
 //! Calls with something wrong: the number is the first in the stated order, and no byte is written.
 use compare::check::{Call, Tally};
-use compare::make::{FAMILIES, Family, Stream, damaged};
+use compare::make::{FAMILIES, Stream, damaged};
+use harness::family::Family;
 
 const NUMBERS: [u32; 7] = [7, 27, 1, 12, 10, 13, 24];
 
@@ -11,9 +12,9 @@ fn damaged_surveys() {
     for _ in 0..5_000 {
         for family in FAMILIES {
             let call = stream.call(family, 6, 8);
-            let once = damaged(&mut stream, &call);
+            let once = damaged(&mut stream.0, &call);
             tally.check(&once);
-            tally.check(&damaged(&mut stream, &once));
+            tally.check(&damaged(&mut stream.0, &once));
         }
     }
     assert!(tally.of(0) > 5_000);

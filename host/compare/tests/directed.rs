@@ -1,6 +1,6 @@
 //! Surveys made for one place of the rules each.
 use compare::check::{Call, Tally};
-use compare::make::SPECIAL;
+use harness::rng::SPECIAL;
 
 fn bytes(numbers: &[f64]) -> Vec<u8> {
     numbers.iter().flat_map(|x| x.to_le_bytes()).collect()
@@ -45,21 +45,21 @@ fn special_numbers_in_points() {
         &[-1e308, 0.0, 1e300],
     ] {
         for place in 0..14 {
-            for special in SPECIAL.into_iter().chain([-f64::NAN]) {
+            for special in SPECIAL {
                 let mut points = [TWO, TWO].concat();
                 points[place] = special;
                 tally.check(&Call::new(bytes(&points), bytes(edges)));
             }
         }
     }
-    assert_eq!(tally.of(0), 3 * 14 * 15);
+    assert_eq!(tally.of(0), 3 * 14 * 14);
 }
 
 #[test]
 fn special_numbers_in_edges() {
     let mut tally = Tally::default();
     for place in 0..3 {
-        for special in SPECIAL.into_iter().chain([-f64::NAN]) {
+        for special in SPECIAL {
             let mut edges = [0.0, 25.0, 26.0];
             edges[place] = special;
             tally.check(&Call::new(bytes(&TWO), bytes(&edges)));
@@ -67,7 +67,7 @@ fn special_numbers_in_edges() {
             tally.check(&Call::new(bytes(&TWO), bytes(&edges[..1])));
         }
     }
-    assert!(tally.of(10) == 20 && tally.of(12) == 45 && tally.of(13) > 10);
+    assert!(tally.of(10) == 20 && tally.of(12) == 42 && tally.of(13) > 10);
 }
 
 /// Squares that round apart in another order: a large one and two that vanish one by one.

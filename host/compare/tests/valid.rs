@@ -1,6 +1,7 @@
 //! Surveys that are accepted: every bit is the Rust's.
 use compare::check::{Call, Tally};
-use compare::make::{FAMILIES, Family, Stream};
+use compare::make::{FAMILIES, Stream};
+use harness::family::Family;
 
 #[test]
 fn short_surveys() {
@@ -22,7 +23,7 @@ fn surveys_of_every_length() {
     for family in FAMILIES {
         for count in 1..=120 {
             let points = stream.points(family, count);
-            let bins = stream.within(1, 256);
+            let bins = stream.0.within(1, 256);
             tally.check(&Call::new(points, stream.edges(family, bins)));
         }
     }

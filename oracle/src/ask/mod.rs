@@ -7,8 +7,8 @@ mod wrap;
 use crate::answer::Answer;
 use crate::case::{Block, Case, Lookup, Segments};
 use pairstat_nostd_internal::{BinEdges, segment_idx_bounds};
+use std::cell::Cell;
 use std::panic::{AssertUnwindSafe, catch_unwind};
-use std::sync::atomic::{AtomicBool, Ordering};
 
 /// An answer, or the text of the Rust's refusal.
 type Said = Result<Answer, String>;
@@ -16,13 +16,15 @@ type Said = Result<Answer, String>;
 /// The highest segment index that the Rust is asked for: it loops once for each.
 pub const HIGHEST_SEGMENT: usize = 1_000_000;
 
-static ASKING: AtomicBool = AtomicBool::new(false);
+thread_local! {
+    static ASKING: Cell<bool> = const { Cell::new(false) };
+}
 
 /// Keeps panics of the Rust silent; any other is printed as ever.
 pub fn silence_panics() {
     let usual = std::panic::take_hook();
     std::panic::set_hook(Box::new(move |info| {
-        if !ASKING.load(Ordering::Relaxed) {
+        if !ASKING.get() {
             usual(info);
         }
     }));
@@ -33,9 +35,9 @@ pub fn ask(case: &Case) -> Answer {
     if let Some(reason) = unaskable(case) {
         return Answer::NotAsked(reason);
     }
-    ASKING.store(true, Ordering::Relaxed);
+    ASKING.set(true);
     let said = catch_unwind(AssertUnwindSafe(|| put(case)));
-    ASKING.store(false, Ordering::Relaxed);
+    ASKING.set(false);
     match said {
         Ok(Ok(answer)) => answer,
         Ok(Err(text)) => Answer::Refused(number::of(&text)),

@@ -3,12 +3,12 @@ use super::Extent;
 use super::edges::{irregular, regular};
 use super::faults::{Fault, lift, over, plain, shorten, sometimes, spread};
 use super::rest;
-use crate::case::{Block, BlockRun, Case, Edges, Form, Offsets, Rest};
+use crate::case::{Block, BlockRun, Case, Edges, FORMS, Form, Offsets, Rest};
 use crate::model::grid;
 use crate::rng::{Rng, SPECIAL};
 
 /// A block with `pad` unread places after each row and plane; its numbers come from `number`.
-fn block(shape: [usize; 3], pad: usize, mut number: impl FnMut(usize) -> f64) -> Block {
+pub fn block(shape: [usize; 3], pad: usize, mut number: impl FnMut(usize) -> f64) -> Block {
     let second = shape[2] + pad;
     let first = second * shape[1] + pad;
     let strides = [first, second, 1];
@@ -68,7 +68,7 @@ fn block_faults() -> Vec<Fault<Block>> {
     faults
 }
 
-fn faults(form: Form, cross: bool, irregular: bool) -> Vec<Fault<BlockRun>> {
+pub fn faults(form: Form, cross: bool, irregular: bool) -> Vec<Fault<BlockRun>> {
     let mut faults = lift(block_faults(), |x: &mut BlockRun| &mut x.a);
     if cross {
         faults.extend(lift(block_faults(), |x: &mut BlockRun| {
@@ -114,13 +114,12 @@ const SHAPES: [([usize; 3], [usize; 3]); 9] = [
 
 /// Every form and operation over the shapes, with padding that holds NaN.
 fn plain_runs() -> Vec<Case> {
-    let forms = [Form::Comp0Mean, Form::SumMean, Form::Histogram];
     let edges = [irregular(&[0.0, 1.0, 2.0, 5.0]), regular(0.0, 6.0, 3)];
     let value = regular(-2.0, 4.0, 3);
     let mut cases = Vec::new();
     for (i, (one, other)) in SHAPES.into_iter().enumerate() {
         let distance = edges[i % 2].clone();
-        let mut rest = rest::fitting(forms[i % 3], distance, value.clone(), i % 2);
+        let mut rest = rest::fitting(FORMS[i % 3], distance, value.clone(), i % 2);
         rest.subtract = i / 2 % 2 == 1;
         let a = at(spoilt(tenths(one, i % 3)), [0, -5, 3]);
         let b = at(
@@ -385,7 +384,7 @@ fn random_block(rng: &mut Rng) -> Block {
     block(shape, pad, |i| numbers[i % numbers.len()])
 }
 
-fn random_widths(rng: &mut Rng) -> [f64; 3] {
+pub fn random_widths(rng: &mut Rng) -> [f64; 3] {
     [0; 3].map(|_| match rng.below(20) {
         0 => rng.special(),
         1..8 => rng.within(1, 3) as f64,

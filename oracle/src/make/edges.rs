@@ -68,7 +68,7 @@ fn list(edges: &mut Edges) -> &mut Vec<f64> {
 }
 
 /// Strictly increasing numbers out of the candidates, at least two.
-fn increasing(rng: &mut Rng, mut from: Vec<f64>) -> Vec<f64> {
+pub fn increasing(rng: &mut Rng, mut from: Vec<f64>) -> Vec<f64> {
     from.retain(|x| x.is_finite());
     from.sort_by(f64::total_cmp);
     from.dedup_by(|right, left| *right <= *left);

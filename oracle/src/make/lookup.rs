@@ -104,6 +104,22 @@ fn irregular_tables() -> Vec<Vec<f64>> {
     ]
 }
 
+/// A value at, beside or between the edges.
+pub fn near_a_mark(rng: &mut Rng, edges: &Edges) -> f64 {
+    let marks = match edges {
+        Edges::Regular { min, max, n } => {
+            let size = (max - min) / *n as f64;
+            (0..=*n).map(|i| min + i as f64 * size).collect()
+        }
+        Edges::Irregular(list) => list.clone(),
+    };
+    match rng.below(4) {
+        0 => rng.any(),
+        1 => marks[0] + rng.unit() * (marks[marks.len() - 1] - marks[0]),
+        _ => *rng.pick(&around(&marks)),
+    }
+}
+
 /// Good edges, mostly, and a value at, beside or between them.
 pub fn random(rng: &mut Rng, wanted_regular: bool) -> Case {
     let sample = rng.list(4);
@@ -111,18 +127,7 @@ pub fn random(rng: &mut Rng, wanted_regular: bool) -> Case {
     while matches!(edges, Edges::Regular { .. }) != wanted_regular {
         edges = random_edges(rng, &sample);
     }
-    let marks = match &edges {
-        Edges::Regular { min, max, n } => {
-            let size = (max - min) / *n as f64;
-            (0..=*n).map(|i| min + i as f64 * size).collect()
-        }
-        Edges::Irregular(list) => list.clone(),
-    };
-    let value = match rng.below(4) {
-        0 => rng.any(),
-        1 => marks[0] + rng.unit() * (marks[marks.len() - 1] - marks[0]),
-        _ => *rng.pick(&around(&marks)),
-    };
+    let value = near_a_mark(rng, &edges);
     let faults = if wanted_regular {
         regular_faults()
     } else {

@@ -3,12 +3,15 @@ mod blocks;
 pub mod classes;
 mod edges;
 mod faults;
+pub mod lists;
 mod lookup;
 pub mod marked;
 mod pack;
 mod points;
 mod rest;
 mod segments;
+mod spacing;
+mod wide;
 
 use crate::case::{Case, NAMES};
 use crate::rng::Rng;
@@ -47,5 +50,17 @@ pub fn random(rng: &mut Rng, operation: usize) -> Case {
         7 | 8 => points::random(rng, operation == 8),
         9 | 10 => blocks::random(rng, operation == 10),
         _ => blocks::random_listing(rng, operation == 12),
+    }
+}
+
+/// A random case of the operation that may be large; of a listing of offsets there is none.
+pub fn wide(rng: &mut Rng, operation: usize) -> Case {
+    match operation {
+        0 | 1 => wide::lookup(rng, operation == 0),
+        2 => segments::random(rng),
+        3..7 => wide::pack(rng, operation),
+        7 | 8 => wide::points(rng, operation == 8),
+        9 | 10 => wide::blocks(rng, operation == 10),
+        _ => panic!("no large case of {}", NAMES[operation]),
     }
 }

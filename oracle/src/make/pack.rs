@@ -1,12 +1,10 @@
 //! Reset, merge, consolidation and result.
 use super::Extent;
 use super::faults::{Fault, lift, over, plain, shorten, sometimes, spread};
-use crate::case::{Case, Consolidation, Form, Kind, Merge, Pack, Reset, StateResult};
+use crate::case::{Case, Consolidation, FORMS, Form, Kind, Merge, Pack, Reset, StateResult};
 use crate::rng::{Rng, SPECIAL};
 
-const FORMS: [Form; 3] = [Form::Comp0Mean, Form::SumMean, Form::Histogram];
-
-fn kind(form: Form, value_bins: usize) -> Kind {
+pub fn kind(form: Form, value_bins: usize) -> Kind {
     let value_bins = if form == Form::Histogram {
         value_bins
     } else {
@@ -210,6 +208,11 @@ fn random_pack(rng: &mut Rng, kind: &Kind, states: usize, packs: usize) -> Pack 
 pub fn random(rng: &mut Rng, operation: usize) -> Case {
     let kind = kind(*rng.pick(&FORMS), rng.within(1, 5));
     let states = rng.within(1, 5);
+    of_shape(rng, operation, kind, states)
+}
+
+/// A random call with packs of so many states of the kind.
+pub fn of_shape(rng: &mut Rng, operation: usize, kind: Kind, states: usize) -> Case {
     match operation {
         3 => {
             let mut x = Reset {

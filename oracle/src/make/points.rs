@@ -3,7 +3,7 @@ use super::Extent;
 use super::edges::{irregular, regular};
 use super::faults::{Fault, lift, over, plain, sometimes, spread};
 use super::rest;
-use crate::case::{Case, Edges, Form, Points, PointsRun, Rest};
+use crate::case::{Case, Edges, FORMS, Form, Points, PointsRun, Rest};
 use crate::model::points::pairs;
 use crate::rng::{Rng, SPECIAL};
 
@@ -55,7 +55,7 @@ fn set_faults() -> Vec<Fault<Points>> {
     faults
 }
 
-fn faults(form: Form, cross: bool, irregular: bool) -> Vec<Fault<PointsRun>> {
+pub fn faults(form: Form, cross: bool, irregular: bool) -> Vec<Fault<PointsRun>> {
     let mut faults = lift(set_faults(), |x: &mut PointsRun| &mut x.a);
     if cross {
         faults.extend(lift(set_faults(), |x: &mut PointsRun| {
@@ -129,10 +129,7 @@ fn plain_runs() -> Vec<Case> {
     let value = irregular(&[-1.0, 0.5, 2.0, 6.0]);
     let mut cases = Vec::new();
     for (i, distance) in edges.into_iter().enumerate() {
-        for (j, form) in [Form::Comp0Mean, Form::SumMean, Form::Histogram]
-            .into_iter()
-            .enumerate()
-        {
+        for (j, form) in FORMS.into_iter().enumerate() {
             let mut rest = rest::fitting(form, distance.clone(), value.clone(), j);
             rest.subtract = (i + j) % 2 == 1;
             let a = padded(&corners(), j);

@@ -1,7 +1,7 @@
 //! What both runs take beside their data.
 use super::edges::{irregular, irregular_faults, random as random_edges, regular, regular_faults};
 use super::faults::{Fault, lift, over, plain};
-use crate::case::{Edges, Form, Pack, Rest};
+use crate::case::{Edges, FORMS, Form, Pack, Rest};
 use crate::rng::Rng;
 
 /// A run with these edges into a pack that fits, of small numbers, with a tail.
@@ -89,8 +89,7 @@ pub fn faults<U: 'static>(
 
 /// A good rest around the distances and values given.
 pub fn random(rng: &mut Rng, distances: &[f64], values: &[f64]) -> Rest {
-    let forms = [Form::Comp0Mean, Form::SumMean, Form::Histogram];
-    let form = *rng.pick(&forms);
+    let form = *rng.pick(&FORMS);
     let distance = random_edges(rng, distances);
     let value = match form {
         Form::Histogram => random_edges(rng, values),

@@ -14,20 +14,23 @@ fn squared_distance(first: [f64; 3], second: [f64; 3]) -> f64 {
     d0 * d0 + (d1 * d1 + d2 * d2)
 }
 
-/// Every pair of the run in its order, with its squared distance.
-pub fn pairs(x: &PointsRun) -> Vec<(f64, Pair)> {
+/// The pair of point i of the first set and point j of the second, with its squared distance.
+pub fn pair(x: &PointsRun, i: usize, j: usize) -> (f64, Pair) {
     let a = &x.a;
     let b = x.b.as_ref().unwrap_or(a);
+    let distance = squared_distance(of_point(&a.positions, a, i), of_point(&b.positions, b, j));
+    let first = (of_point(&a.values, a, i), a.weights[i]);
+    let second = (of_point(&b.values, b, j), b.weights[j]);
+    (distance, Pair::new(x.rest.subtract, first, second))
+}
+
+/// Every pair of the run in its order.
+pub fn pairs(x: &PointsRun) -> Vec<(f64, Pair)> {
+    let last = x.b.as_ref().unwrap_or(&x.a).count;
     let mut pairs = Vec::new();
-    for i in 0..a.count {
+    for i in 0..x.a.count {
         let from = if x.b.is_none() { i + 1 } else { 0 };
-        for j in from..b.count {
-            let distance =
-                squared_distance(of_point(&a.positions, a, i), of_point(&b.positions, b, j));
-            let first = (of_point(&a.values, a, i), a.weights[i]);
-            let second = (of_point(&b.values, b, j), b.weights[j]);
-            pairs.push((distance, Pair::new(x.rest.subtract, first, second)));
-        }
+        pairs.extend((from..last).map(|j| pair(x, i, j)));
     }
     pairs
 }
