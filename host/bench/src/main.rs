@@ -1,6 +1,7 @@
 //! The runs of the verified library timed against the published Rust and the tightest safe Rust.
 mod case;
 mod inputs;
+mod limits;
 mod original;
 mod table;
 mod tight;
@@ -15,6 +16,7 @@ fn main() -> ExitCode {
     inputs::large(&mut table);
     inputs::growth(&mut table);
     inputs::small_stack();
+    limits::print();
     if table.different == 0 {
         println!("all outputs the same bit for bit");
         return ExitCode::SUCCESS;
