@@ -2,6 +2,7 @@ pub mod Refusals
 pub mod Ready
 pub mod Distance
 pub mod Loops
+pub mod Means
 pub mod Cells
 pub mod Merge
 pub mod Walk

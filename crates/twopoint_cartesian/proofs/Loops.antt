@@ -12,6 +12,10 @@ use Rattle.laws.proofs.Loops.{loopLeft}
 use Rattle.reducer.specs.declared.Datum.{Datum}
 use Rattle.reducer.specs.Readings.{opOf, theDatum, readingOf}
 use Rattle.reducer.specs.Consume.{consumed}
+use Rattle.edge_table.specs.declared.Table.{Table}
+use Rattle.edge_table.specs.Table.{tableConsumed}
+use Rattle.edge_table.specs.Tabled.{TabledValues}
+use Rattle.edge_table.proofs.Lookup.{table-consumed}
 use Rattle.twopoint_cartesian.specs.declared.Setup.{Setup}
 use Rattle.twopoint_cartesian.specs.Cells.{Fields, readingIn, cellsAdded, rowAdded, planeAdded, blockAdded}
 
@@ -27,10 +31,13 @@ module _ {S : Type 0} (body : ℕ → S → S) (n : ℕ) (z : S) where
       rw m at inv
 
 module _ (setup : Setup) (valueEdges : List Float) (a b : Fields) where
-  pub cells-added : (i j : ℕ) (x y d : Datum) (s q : List Float) → readingOf x ≡ readingIn a i → readingOf y ≡ readingIn b j → theDatum d ≡ datumOf (opOf (setup .op)) (readingOf x) (readingOf y)
-      → q ≡ consumed (setup .reducer) valueEdges 1 0 (theDatum d) s → q ≡ cellsAdded setup valueEdges a b i j s
+  pub cells-added : (i j : ℕ) (keys hints : List ℕ) (table : Table) (x y d : Datum) (s q : List Float) → readingOf x ≡ readingIn a i → readingOf y ≡ readingIn b j
+      → theDatum d ≡ datumOf (opOf (setup .op)) (readingOf x) (readingOf y) → TabledValues (setup .reducer) valueEdges table keys
+      → q ≡ tableConsumed (setup .reducer) valueEdges keys hints table 1 0 (theDatum d) s → q ≡ cellsAdded setup valueEdges a b i j s
   unfolding cellsAdded
-  cells-added i j x y d s q ex ey ed h = h ∙ ap (λ (e : definitions.Datum). consumed (setup .reducer) valueEdges 1 0 e s) (ed ∙ λ t. datumOf (opOf (setup .op)) (ex t) (ey t))
+  cells-added i j keys hints table x y d s q ex ey ed t h =
+      table-consumed valueEdges keys hints table (theDatum d) (setup .reducer) 1 0 s q t h
+      ∙ ap (λ (e : definitions.Datum). consumed (setup .reducer) valueEdges 1 0 e s) (ed ∙ λ t. datumOf (opOf (setup .op)) (ex t) (ey t))
 
   module _ (i j n : ℕ) where
     pub row-start : (s : List Float) → rowAdded setup valueEdges a b i j 0 (n - 0) s ≡ rowAdded setup valueEdges a b i j 0 n s

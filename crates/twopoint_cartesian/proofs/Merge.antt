@@ -4,11 +4,13 @@ use mathlib.Core.Option.{Option, none, some, Option·some-injective, Option·non
 use mathlib.Core.Bool.{Bool, true, false, cond}
 use mathlib.Core.List.{List, [], _∷_, _++_, map}
 use Prim.Native.Nat.{ℕ, zero, suc, _+_, _-_, _*_, _<_, _≤_}
-use native.Mathlib.Nat.{sub-zero, suc-mul, mul-comm, mul-le-mul-right}
+use native.Mathlib.Nat.{sub-zero, suc-mul, mul-comm, mul-le-mul, mul-le-mul-right}
 use native.Mathlib.Omega.{arith}
 use lib.Dec.{T, ltb, ltb→lt}
 use lib.ListN.{length, set, drop, replicate, length-replicate, drop-of-length-le}
 use lib.Ieee.{Float, binary64, add}
+use mir.Syntax.{w64}
+use mir.Val.{Fits}
 use Rattle.definitions.specs.Lists.{at, range, upto, overwritten}
 use Rattle.definitions.specs.Floats.{zeroF}
 use Rattle.definitions.specs.Bins.{below}
@@ -47,17 +49,26 @@ module _ (s : List Float) where
       ∙ ap (λ (l : List Float). map (λ p. zeroF false) (upto (length s)) ++ l) (drop-of-length-le s {i = length s} (omega arith)) ∙ nothing (map (λ p. zeroF false) (upto (length s))) ∙ zeros 0 (length s)
 
 -- ---- the merge
-pub merge-place : (n b size len e : ℕ) → Room n b size len → e < size → place n e b < len
-merge-place n b size len e r h = omega (arith, r .state, r .pack, suc-mul e n, mul-comm size n, mul-le-mul-right n h)
+module _ (x n k : ℕ) (hx : x < 256) (hn : n ≤ 256) where
+  pub product-fits : Fits w64 (x * n)
+  product-fits = let h : x ≤ 256 = omega arith in record { fits = omega (arith, mul-le-mul h hn) }
+
+  pub place-fits : k < 256 → Fits w64 (x * n + k)
+  place-fits hk = let h : x ≤ 256 = omega arith in record { fits = omega (arith, mul-le-mul h hn) }
+
+-- k is what a call answered
+pub merge-place : (n b size len e k : ℕ) → Room n b size len → e < size → k ≡ place n e b → k < len
+merge-place n b size len e k r h q = omega (arith, r .state, r .pack, suc-mul e n, mul-comm size n, mul-le-mul-right n h)
 
 module _ (n b : ℕ) (state : List Float) where
   pub merge-start : (s : List Float) → stateMerged n b state 0 (length state - 0) s ≡ stateMerged n b state 0 (length state) s
   merge-start s = ap (λ (m : ℕ). stateMerged n b state 0 m s) (sub-zero (length state))
 
   module _ (z : List Float) (e : ℕ) (s : List Float) where
-    pub merge-turn : e < length state → stateMerged n b state e (length state - e) s ≡ z → stateMerged n b state (e + 1) (length state - (e + 1)) (bump (place n e b) (at state e) s) ≡ z
+    pub merge-turn : (k : ℕ) → e < length state → k ≡ place n e b → stateMerged n b state e (length state - e) s ≡ z
+        → stateMerged n b state (e + 1) (length state - (e + 1)) (bump k (at state e) s) ≡ z
     unfolding stateMerged
-    merge-turn h = left-turn (λ e s. bump (place n e b) (at state e) s) (length state) z e s (bump (place n e b) (at state e) s) h refl
+    merge-turn k h q = left-turn (λ e s. bump (place n e b) (at state e) s) (length state) z e s (bump k (at state e) s) h (ap (λ (i : ℕ). bump i (at state e) s) q)
 
     pub merge-done : length state ≤ e → stateMerged n b state e (length state - e) s ≡ z → s ≡ z
     unfolding stateMerged

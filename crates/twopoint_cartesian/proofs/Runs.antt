@@ -7,10 +7,11 @@ use Prim.Native.Nat.{ℕ, _+_, _*_, _<_, _≤_}
 use native.Mathlib.Omega.{arith}
 use lib.ListN.{length, take, replicate, length-replicate}
 use lib.Seq.{length-take-le}
-use lib.Ieee.{Float}
+use lib.Dec.{T}
+use lib.Ieee.{Float, binary64, fits}
 use mir.Syntax.{w64}
 use mir.Val.{Fits}
-use Rattle.definitions.specs.Lists.{foldAt}
+use Rattle.definitions.specs.Lists.{at, foldAt}
 use Rattle.definitions.specs.Floats.{zeroF}
 use Rattle.definitions.specs.Bins as definitions
 use Rattle.definitions.specs.Bins.{bins}
@@ -29,6 +30,7 @@ use Rattle.reducer.specs.declared.Reducer.{Reducer}
 use Rattle.reducer.specs.Readings.{opOf, edgesOf, kindOf}
 use Rattle.reducer.specs.Consume.{builtBins}
 use Rattle.reducer.proofs.Placewise.{made-bins}
+use Rattle.edge_table.proofs.Lookup.{usable-made, usable-values-made}
 use Rattle.parallel_serial.specs.declared.Shape.{Shape}
 use Rattle.parallel_serial.specs.Drive as drive
 use Rattle.parallel_serial.specs.Drive.{zeroPack, addedScratch, builtEdges, builtReducer, runNumber}
@@ -42,7 +44,7 @@ use Rattle.twopoint_cartesian.specs.declared.Block.{Block}
 use Rattle.twopoint_cartesian.specs.declared.CellWidth.{CellWidth}
 use Rattle.twopoint_cartesian.specs.declared.Setup.{Setup}
 use Rattle.twopoint_cartesian.specs.Readings.{blockOf, widthOf, axesOf, setsRun}
-use Rattle.twopoint_cartesian.specs.Cells.{Ready, Roomy, zeroState, seqFor, offsetsAdded}
+use Rattle.twopoint_cartesian.specs.Cells.{Ready, Findable, Roomy, zeroState, seqFor, offsetsAdded}
 use Rattle.twopoint_cartesian.specs.Refusals.{setsFor, noWidth, setsNumber}
 use Rattle.twopoint_cartesian.proofs.Ready.{ready-sets}
 use Rattle.twopoint_cartesian.proofs.Placewise.{theRun, theSetup, filled-length, filled-at}
@@ -78,28 +80,29 @@ module _ (auto : Bool) (width : CellWidth) (a b : Block) (a0 a1 a2 aw b0 b1 b2 b
     number-is t n m x p o h = h ∙ λ i. runNumber ((sym t ∙ q ∙ over-same) i) (p i) ((o ∙ pairs-same) i) e k shape len
 
 -- ---- what follows of it
+module _ (sets : run.Sets) (edges : Edges) (list : List Float) (kind : Kind) (valueEdges : List Float) (op : PairOperation) (shape : Shape) (s : List Float) (x : ℕ)
+    (h : x ≡ setsNumber sets (edgesOf edges list) (kindOf kind valueEdges) shape (length s)) where
+  abbrev this : Run
+  this = setsRun sets edges list kind valueEdges op shape
+
+  own-number : x ≡ refusal (runRules this (length s))
+  unfolding setsNumber setsRun
+  own-number = h ∙ run-number sets (opOf op) (edgesOf edges list) (kindOf kind valueEdges) shape (length s)
+
+  pub stays : (x ≡ 0 → ⊥) → s ≡ step this s
+  stays n = step-refused this s x own-number n
+
+  pub answer-refused : (x ≡ 0 → ⊥) → some x ≡ met (refusal (runRules this (length s)))
+  answer-refused n = run-refused this s x own-number n
+
+  pub answer-done : x ≡ 0 → none ≡ met (refusal (runRules this (length s)))
+  answer-done z = run-done this s x own-number z
+
+  pub done : x ≡ 0 → (q : List Float) → q ≡ merged this s → q ≡ step this s
+  done z q e = step-done this s x own-number z q e
+
 module _ (auto : Bool) (width : blocks.CellWidth) (a b : CartesianBlock) (edges : Edges) (list : List Float) (kind : Kind) (valueEdges : List Float) (shape : Shape) (s : List Float) (x : ℕ)
     (h : x ≡ setsNumber (setsFor auto width a b) (edgesOf edges list) (kindOf kind valueEdges) shape (length s)) where
-  module _ (op : PairOperation) where
-    abbrev this : Run
-    this = setsRun (setsFor auto width a b) edges list kind valueEdges op shape
-
-    own-number : x ≡ refusal (runRules this (length s))
-    unfolding setsNumber setsRun
-    own-number = h ∙ run-number (setsFor auto width a b) (opOf op) (edgesOf edges list) (kindOf kind valueEdges) shape (length s)
-
-    pub stays : (x ≡ 0 → ⊥) → s ≡ step this s
-    stays n = step-refused this s x own-number n
-
-    pub answer-refused : (x ≡ 0 → ⊥) → some x ≡ met (refusal (runRules this (length s)))
-    answer-refused n = run-refused this s x own-number n
-
-    pub answer-done : x ≡ 0 → none ≡ met (refusal (runRules this (length s)))
-    answer-done z = run-done this s x own-number z
-
-    pub done : x ≡ 0 → (q : List Float) → q ≡ merged this s → q ≡ step this s
-    done z q e = step-done this s x own-number z q e
-
   module _ (z : x ≡ 0) where
     all : Accepted (overSets (setsFor auto width a b)) (refusal (setRules (setsFor auto width a b))) (refusal (pairRules (setsFor auto width a b))) (edgesOf edges list) (kindOf kind valueEdges) shape (length s)
     unfolding setsNumber
@@ -150,6 +153,13 @@ roomy edges list kind valueEdges op shape len be rd y z d eb ey ez =
       small = omega (arith, d .size, d .small);
       pack = omega arith;
     })
+
+pub findable : (edges : Edges) (list : List Float) (kind : Kind) (valueEdges : List Float) (op : PairOperation) (shape : Shape) (len n : ℕ) (be : BuiltEdges) (rd : Reducer)
+    → Drivable (edgesOf edges list) (kindOf kind valueEdges) shape len → ((i : ℕ) → T (fits binary64 (at list i))) → ((i : ℕ) → T (fits binary64 (at valueEdges i))) → be ≡ builtEdges edges → rd ≡ builtReducer kind
+    → Findable (record { op = op; edges = be; reducer = rd; «n_states» = n }) list valueEdges
+findable edges list kind valueEdges op shape len n be rd d hl hv eb er =
+    rw (eb ∙ built-made edges list (d .edges), er ∙ reducer-made kind valueEdges (d .values))
+    (record { distances = usable-made list hl edges (d .edges); values = usable-values-made valueEdges hv kind (d .values) })
 
 -- ---- scratch, by the offsets of the run
 pub added-filled : (s t u q : List Float) → t ≡ u → q ≡ addedScratch s t → q ≡ addedScratch s u

@@ -4,25 +4,31 @@ use mathlib.Core.Option.{Option, none, some}
 use mathlib.Core.List.{List}
 use mathlib.Core.Bool.{Bool, true, false}
 use Prim.Native.Nat.{ℕ, _+_, _-_, _*_, _≤_, _<_}
-use lib.ListN.{length, replicate, getElem?}
+use lib.Dec.{leb}
+use lib.ListN.{length, set, replicate, getElem?}
 use lib.IntN.{ℤ, natAbs}
-use lib.Ieee.{Float}
+use lib.Ieee.{Float, binary64, add, mul}
 use Rattle.definitions.specs.Lists.{at, upto}
 use Rattle.definitions.specs.Floats.{zeroF}
 use Rattle.definitions.specs.Points.{Reading}
 use Rattle.definitions.specs.Blocks.{CartesianBlock, Cell, cell, cellIndex, requiredLength, startA, startB, count, cellPairs, distanceSquared}
 use Rattle.definitions.specs.Blocks as Blocks
-use Rattle.definitions.specs.Reducer.{datumOf}
+use Rattle.definitions.specs.Reducer.{Datum, datumOf, componentSum}
 use Rattle.definitions.specs.Run.{place}
 use Rattle.laws.proofs.Loops.{loopLeft}
 use Rattle.laws.proofs.Places.{foldPack, bump}
+use Rattle.reducer.specs.declared.Reducer.{Reducer}
+use Rattle.reducer.specs.declared.Reducer.the-variants.{Comp0Mean, ComponentSumMean, ComponentSumHistogram}
 use Rattle.reducer.specs.Readings.{opOf}
 use Rattle.reducer.specs.Consume.{builtBins, builtBin, consumed}
+use Rattle.edge_table.specs.Tabled.{Usable, Tabled, UsableValues, TabledValues}
 use Rattle.idx_3d_offset.specs.declared.Axes.{Axes}
 use Rattle.idx_3d_offset.specs.Offsets.{Walkable, crossSeq, autoSeq}
 use Rattle.twopoint_cartesian.specs.declared.Block.{Block}
 use Rattle.twopoint_cartesian.specs.declared.CellWidth.{CellWidth}
 use Rattle.twopoint_cartesian.specs.declared.Setup.{Setup}
+use Rattle.twopoint_cartesian.specs.declared.Tables.{Tables}
+use Rattle.twopoint_cartesian.specs.declared.Mean.{Mean}
 use Rattle.twopoint_cartesian.specs.Readings.{blockOf, widthOf, axesOf}
 
 -- a block's three components and its weights
@@ -110,6 +116,39 @@ module _ (setup : Setup) (valueEdges : List Float) (a b : Fields) where
   unfoldable pub blockAdded : ℕ → ℕ → ℕ → ℕ → ℕ → ℕ → ℕ → ℕ → ℕ → ℕ → List Float → List Float
   blockAdded i j sa sb ta tb n k z l s = loopLeft (λ z s. planeAdded (i + z * ta) (j + z * tb) sa sb n 0 k s) z l s
 
+-- ---- the same for a mean, its two numbers apart
+abbrev pub scalarOf : Reducer → Datum → Float
+scalarOf Comp0Mean d = d .c0
+scalarOf ComponentSumMean d = componentSum d
+scalarOf (ComponentSumHistogram e) d = componentSum d
+
+abbrev pub isMean : Reducer → ℕ → Bool
+isMean Comp0Mean len = leb 2 len
+isMean ComponentSumMean len = leb 2 len
+isMean (ComponentSumHistogram e) len = false
+
+abbrev pub meanAdded : Reducer → Datum → Mean → Mean
+meanAdded k d m = record { total = add binary64 (m .total) (mul binary64 (scalarOf k d) (d .weight)); weight = add binary64 (m .weight) (d .weight) }
+
+abbrev pub meanIn : List Float → Mean
+meanIn s = record { total = at s 0; weight = at s 1 }
+
+abbrev pub withMean : Mean → List Float → List Float
+withMean m s = set (set s 0 (m .total)) 1 (m .weight)
+
+module _ (setup : Setup) (a b : Fields) where
+  unfoldable pub cellsInMean : ℕ → ℕ → Mean → Mean
+  cellsInMean i j m = meanAdded (setup .reducer) (datumOf (opOf (setup .op)) (readingIn a i) (readingIn b j)) m
+
+  unfoldable pub rowInMean : ℕ → ℕ → ℕ → ℕ → Mean → Mean
+  rowInMean i j x n m = loopLeft (λ x m. cellsInMean (i + x) (j + x) m) x n m
+
+  unfoldable pub planeInMean : ℕ → ℕ → ℕ → ℕ → ℕ → ℕ → ℕ → Mean → Mean
+  planeInMean i j sa sb n y k m = loopLeft (λ y m. rowInMean (i + y * sa) (j + y * sb) 0 n m) y k m
+
+  unfoldable pub blockInMean : ℕ → ℕ → ℕ → ℕ → ℕ → ℕ → ℕ → ℕ → ℕ → ℕ → Mean → Mean
+  blockInMean i j sa sb ta tb n k z l m = loopLeft (λ z m. planeInMean (i + z * ta) (j + z * tb) sa sb n 0 k m) z l m
+
 abbrev pub fieldsIn : CartesianBlock → Fields
 fieldsIn b = fields (b .comp0) (b .comp1) (b .comp2) (b .weights)
 
@@ -149,6 +188,16 @@ pub record Room (n b size len : ℕ) : Type 0 where
   pub small : size ≤ 256
   pub state : b < n
   pub pack : n * size ≤ len
+
+-- edges that lookups by tables find in
+pub record Findable (setup : Setup) (list valueEdges : List Float) : Type 0 where
+  pub distances : Usable (setup .edges) list
+  pub values : UsableValues (setup .reducer) valueEdges
+
+-- the tables made of them
+pub record Looked (setup : Setup) (list valueEdges : List Float) (tables : Tables) (keys valueKeys : List ℕ) : Type 0 where
+  pub distances : Tabled (setup .edges) list (tables .distances) keys
+  pub values : TabledValues (setup .reducer) valueEdges (tables .values) valueKeys
 
 -- the setup's states are its bins, and there is room for them
 pub record Roomy (setup : Setup) (list : List Float) (size len : ℕ) : Type 0 where

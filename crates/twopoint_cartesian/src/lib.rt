@@ -1,5 +1,6 @@
 // Two-point runs over the cells of Cartesian blocks (twopoint_cartesian.rs, spatial.rs).
 use bins::BinIndex;
+use edge_table::Table;
 use idx_3d_offset::Axes;
 use idx_3d_offset::Idx3DOffset;
 use idx_3d_offset::Offset;
@@ -20,17 +21,18 @@ ghost use Rattle.definitions.specs.Floats.{zeroF};
 ghost use Rattle.definitions.specs.Points.{square};
 ghost use Rattle.definitions.specs.Blocks.{cell, cellIndex, requiredLength, displaced, distanceSquared};
 ghost use Rattle.definitions.specs.Rules.{refusal, met, outside as outsideOf, overBlock, blockRules, widthRules, precedes as precedesOf, overSets, setRules, pairRules, runRules, step};
-ghost use Rattle.definitions.specs.Run.{merged};
+ghost use Rattle.definitions.specs.Run.{place, merged};
 ghost use Rattle.bins.specs.Answers.{indexOf};
 ghost use Rattle.state.specs.Readings.{numberOf};
-ghost use Rattle.reducer.specs.Readings.{readingOf, edgesOf, kindOf};
+ghost use Rattle.reducer.specs.Readings.{theDatum, readingOf, edgesOf, kindOf};
 ghost use Rattle.reducer.specs.Consume.{builtBin};
+ghost use Rattle.edge_table.specs.Tabled.{Tabled, TabledValues};
 ghost use Rattle.parallel_serial.specs.Drive.{addedScratch};
 ghost use Rattle.parallel_serial.proofs.Refusals.{Drivable};
 ghost use Rattle.idx_3d_offset.specs.Offsets.{idxOf, offsetOf, Reach};
 ghost use Rattle.twopoint_cartesian.specs.Readings.{blockOf, widthOf, axesOf, setsRun, autoRun, crossRun};
 ghost use Rattle.twopoint_cartesian.specs.Refusals.{setsFor, setsNumber, noWidth, numbersOver, lengthOver, globalsOver, Limited};
-ghost use Rattle.twopoint_cartesian.specs.Cells.{fields, readingIn, Holds, RowFits, PlaneFits, BlockFits, Near, AllNear, Ready, Placed, cellsAdded, rowAdded, planeAdded, blockAdded, firstA, firstB, overlapOf, offsetCells, zeroState, fresh, Room, Roomy, stateMerged, offsetAdded, numberAdded, offsetsAdded, seqFor};
+ghost use Rattle.twopoint_cartesian.specs.Cells.{fields, readingIn, Holds, RowFits, PlaneFits, BlockFits, Near, AllNear, Ready, Placed, cellsAdded, rowAdded, scalarOf, cellsInMean, rowInMean, isMean, meanIn, withMean, planeInMean, blockInMean, Looked, Findable, planeAdded, blockAdded, firstA, firstB, overlapOf, offsetCells, zeroState, fresh, Room, Roomy, stateMerged, offsetAdded, numberAdded, offsetsAdded, seqFor};
 
 // Axes, strides and global offsets in the order z, y, x.
 pub struct Block {
@@ -57,6 +59,18 @@ struct Setup {
     edges: BuiltEdges,
     reducer: Reducer,
     n_states: usize,
+}
+
+// For the lookups of distances and of values.
+struct Tables {
+    distances: Table,
+    values: Table,
+}
+
+// The two numbers of a mean's state.
+struct Mean {
+    total: f64,
+    weight: f64,
 }
 
 // ---- refusals
@@ -313,7 +327,10 @@ fn cell_at(comp0: &[f64], comp1: &[f64], comp2: &[f64], weights: &[f64], i: usiz
 // Cell i of a with cell j of b.
 fn add_cells(
     setup: Setup,
+    values: Table,
     value_edges: &[f64],
+    value_keys: &[u64],
+    hints: &[u8],
     a0: &[f64],
     a1: &[f64],
     a2: &[f64],
@@ -326,7 +343,7 @@ fn add_cells(
     j: usize,
     state: &mut [f64],
 )
-    requires { ⌜ Holds (fields (now a0) (now a1) (now a2) (now aw)) i ⌝ ∗ ⌜ Holds (fields (now b0) (now b1) (now b2) (now bw)) j ⌝ }
+    requires { ⌜ Holds (fields (now a0) (now a1) (now a2) (now aw)) i ⌝ ∗ ⌜ Holds (fields (now b0) (now b1) (now b2) (now bw)) j ⌝ ∗ ⌜ TabledValues (setup .reducer) (now «value_edges») values (now «value_keys») ⌝ }
     ensures { λ _. ⌜ now (state .exit) ≡ cellsAdded setup (now («value_edges» .entry)) (fields (now (a0 .entry)) (now (a1 .entry)) (now (a2 .entry)) (now (aw .entry)))
         (fields (now (b0 .entry)) (now (b1 .entry)) (now (b2 .entry)) (now (bw .entry))) i j (now (state .entry)) ⌝ }
 {
@@ -335,13 +352,26 @@ fn add_cells(
     let a = cell_at(a0, a1, a2, aw, i);
     let b = cell_at(b0, b1, b2, bw, j);
     let datum = reducer::datum_of(op, a, b);
-    reducer::consume(kind, value_edges, 1, 0, datum, state);
+    edge_table::consume(
+        kind,
+        value_edges,
+        value_keys,
+        hints,
+        values,
+        1,
+        0,
+        datum,
+        state,
+    );
 }
 
 // n cells of a from i on, each with b's from j on.
 fn add_row(
     setup: Setup,
+    values: Table,
     value_edges: &[f64],
+    value_keys: &[u64],
+    hints: &[u8],
     a0: &[f64],
     a1: &[f64],
     a2: &[f64],
@@ -355,14 +385,17 @@ fn add_row(
     n: usize,
     state: &mut [f64],
 )
-    requires { ⌜ RowFits (fields (now a0) (now a1) (now a2) (now aw)) i n ⌝ ∗ ⌜ RowFits (fields (now b0) (now b1) (now b2) (now bw)) j n ⌝ }
+    requires { ⌜ RowFits (fields (now a0) (now a1) (now a2) (now aw)) i n ⌝ ∗ ⌜ RowFits (fields (now b0) (now b1) (now b2) (now bw)) j n ⌝ ∗ ⌜ TabledValues (setup .reducer) (now «value_edges») values (now «value_keys») ⌝ }
     ensures { λ _. ⌜ now (state .exit) ≡ rowAdded setup (now («value_edges» .entry)) (fields (now (a0 .entry)) (now (a1 .entry)) (now (a2 .entry)) (now (aw .entry)))
         (fields (now (b0 .entry)) (now (b1 .entry)) (now (b2 .entry)) (now (bw .entry))) i j 0 n (now (state .entry)) ⌝ }
 {
     for x in 0..n {
         add_cells(
             setup,
+            values,
             value_edges,
+            value_keys,
+            hints,
             a0,
             a1,
             a2,
@@ -381,7 +414,10 @@ fn add_row(
 // k rows of n cells, each a stride after the one before: sa in a, sb in b.
 fn add_plane(
     setup: Setup,
+    values: Table,
     value_edges: &[f64],
+    value_keys: &[u64],
+    hints: &[u8],
     a0: &[f64],
     a1: &[f64],
     a2: &[f64],
@@ -398,14 +434,17 @@ fn add_plane(
     k: usize,
     state: &mut [f64],
 )
-    requires { ⌜ PlaneFits (fields (now a0) (now a1) (now a2) (now aw)) i sa n k ⌝ ∗ ⌜ PlaneFits (fields (now b0) (now b1) (now b2) (now bw)) j sb n k ⌝ }
+    requires { ⌜ PlaneFits (fields (now a0) (now a1) (now a2) (now aw)) i sa n k ⌝ ∗ ⌜ PlaneFits (fields (now b0) (now b1) (now b2) (now bw)) j sb n k ⌝ ∗ ⌜ TabledValues (setup .reducer) (now «value_edges») values (now «value_keys») ⌝ }
     ensures { λ _. ⌜ now (state .exit) ≡ planeAdded setup (now («value_edges» .entry)) (fields (now (a0 .entry)) (now (a1 .entry)) (now (a2 .entry)) (now (aw .entry)))
         (fields (now (b0 .entry)) (now (b1 .entry)) (now (b2 .entry)) (now (bw .entry))) i j sa sb n 0 k (now (state .entry)) ⌝ }
 {
     for y in 0..k {
         add_row(
             setup,
+            values,
             value_edges,
+            value_keys,
+            hints,
             a0,
             a1,
             a2,
@@ -423,9 +462,12 @@ fn add_plane(
 }
 
 // l planes, each a stride after the one before: ta in a, tb in b.
-fn add_block(
+fn add_planes(
     setup: Setup,
+    values: Table,
     value_edges: &[f64],
+    value_keys: &[u64],
+    hints: &[u8],
     a0: &[f64],
     a1: &[f64],
     a2: &[f64],
@@ -445,14 +487,17 @@ fn add_block(
     l: usize,
     state: &mut [f64],
 )
-    requires { ⌜ BlockFits (fields (now a0) (now a1) (now a2) (now aw)) i sa ta n k l ⌝ ∗ ⌜ BlockFits (fields (now b0) (now b1) (now b2) (now bw)) j sb tb n k l ⌝ }
+    requires { ⌜ BlockFits (fields (now a0) (now a1) (now a2) (now aw)) i sa ta n k l ⌝ ∗ ⌜ BlockFits (fields (now b0) (now b1) (now b2) (now bw)) j sb tb n k l ⌝ ∗ ⌜ TabledValues (setup .reducer) (now «value_edges») values (now «value_keys») ⌝ }
     ensures { λ _. ⌜ now (state .exit) ≡ blockAdded setup (now («value_edges» .entry)) (fields (now (a0 .entry)) (now (a1 .entry)) (now (a2 .entry)) (now (aw .entry)))
         (fields (now (b0 .entry)) (now (b1 .entry)) (now (b2 .entry)) (now (bw .entry))) i j sa sb ta tb n k 0 l (now (state .entry)) ⌝ }
 {
     for z in 0..l {
         add_plane(
             setup,
+            values,
             value_edges,
+            value_keys,
+            hints,
             a0,
             a1,
             a2,
@@ -467,6 +512,313 @@ fn add_block(
             sb,
             n,
             k,
+            state,
+        );
+    }
+}
+
+// ---- the same for a mean, its two numbers in locals
+
+fn scalar_of(kind: Reducer, d: Datum) -> f64
+    ensures { λ r. ⌜ r ≡ scalarOf kind (theDatum d) ⌝ }
+{
+    match kind {
+        Reducer::Comp0Mean => d.c0,
+        Reducer::ComponentSumMean => reducer::component_sum(d),
+        Reducer::ComponentSumHistogram(_) => reducer::component_sum(d),
+    }
+}
+
+fn cells_in_mean(
+    setup: Setup,
+    a0: &[f64],
+    a1: &[f64],
+    a2: &[f64],
+    aw: &[f64],
+    b0: &[f64],
+    b1: &[f64],
+    b2: &[f64],
+    bw: &[f64],
+    i: usize,
+    j: usize,
+    m: Mean,
+) -> Mean
+    requires { ⌜ Holds (fields (now a0) (now a1) (now a2) (now aw)) i ⌝ ∗ ⌜ Holds (fields (now b0) (now b1) (now b2) (now bw)) j ⌝ }
+    ensures { λ r. ⌜ r ≡ cellsInMean setup (fields (now (a0 .entry)) (now (a1 .entry)) (now (a2 .entry)) (now (aw .entry)))
+        (fields (now (b0 .entry)) (now (b1 .entry)) (now (b2 .entry)) (now (bw .entry))) i j m ⌝ }
+{
+    let op = setup.op;
+    let kind = setup.reducer;
+    let a = cell_at(a0, a1, a2, aw, i);
+    let b = cell_at(b0, b1, b2, bw, j);
+    let d = reducer::datum_of(op, a, b);
+    let value = scalar_of(kind, d);
+    Mean {
+        total: m.total + value * d.weight,
+        weight: m.weight + d.weight,
+    }
+}
+
+fn row_in_mean(
+    setup: Setup,
+    a0: &[f64],
+    a1: &[f64],
+    a2: &[f64],
+    aw: &[f64],
+    b0: &[f64],
+    b1: &[f64],
+    b2: &[f64],
+    bw: &[f64],
+    i: usize,
+    j: usize,
+    n: usize,
+    first: Mean,
+) -> Mean
+    requires { ⌜ RowFits (fields (now a0) (now a1) (now a2) (now aw)) i n ⌝ ∗ ⌜ RowFits (fields (now b0) (now b1) (now b2) (now bw)) j n ⌝ }
+    ensures { λ r. ⌜ r ≡ rowInMean setup (fields (now (a0 .entry)) (now (a1 .entry)) (now (a2 .entry)) (now (aw .entry)))
+        (fields (now (b0 .entry)) (now (b1 .entry)) (now (b2 .entry)) (now (bw .entry))) i j 0 n first ⌝ }
+{
+    let mut m = first;
+    for x in 0..n {
+        m = cells_in_mean(setup, a0, a1, a2, aw, b0, b1, b2, bw, i + x, j + x, m);
+    }
+    m
+}
+
+fn plane_in_mean(
+    setup: Setup,
+    a0: &[f64],
+    a1: &[f64],
+    a2: &[f64],
+    aw: &[f64],
+    b0: &[f64],
+    b1: &[f64],
+    b2: &[f64],
+    bw: &[f64],
+    i: usize,
+    j: usize,
+    sa: usize,
+    sb: usize,
+    n: usize,
+    k: usize,
+    first: Mean,
+) -> Mean
+    requires { ⌜ PlaneFits (fields (now a0) (now a1) (now a2) (now aw)) i sa n k ⌝ ∗ ⌜ PlaneFits (fields (now b0) (now b1) (now b2) (now bw)) j sb n k ⌝ }
+    ensures { λ r. ⌜ r ≡ planeInMean setup (fields (now (a0 .entry)) (now (a1 .entry)) (now (a2 .entry)) (now (aw .entry)))
+        (fields (now (b0 .entry)) (now (b1 .entry)) (now (b2 .entry)) (now (bw .entry))) i j sa sb n 0 k first ⌝ }
+{
+    let mut m = first;
+    for y in 0..k {
+        m = row_in_mean(
+            setup,
+            a0,
+            a1,
+            a2,
+            aw,
+            b0,
+            b1,
+            b2,
+            bw,
+            i + y * sa,
+            j + y * sb,
+            n,
+            m,
+        );
+    }
+    m
+}
+
+fn block_in_mean(
+    setup: Setup,
+    a0: &[f64],
+    a1: &[f64],
+    a2: &[f64],
+    aw: &[f64],
+    b0: &[f64],
+    b1: &[f64],
+    b2: &[f64],
+    bw: &[f64],
+    i: usize,
+    j: usize,
+    sa: usize,
+    sb: usize,
+    ta: usize,
+    tb: usize,
+    n: usize,
+    k: usize,
+    l: usize,
+    first: Mean,
+) -> Mean
+    requires { ⌜ BlockFits (fields (now a0) (now a1) (now a2) (now aw)) i sa ta n k l ⌝ ∗ ⌜ BlockFits (fields (now b0) (now b1) (now b2) (now bw)) j sb tb n k l ⌝ }
+    ensures { λ r. ⌜ r ≡ blockInMean setup (fields (now (a0 .entry)) (now (a1 .entry)) (now (a2 .entry)) (now (aw .entry)))
+        (fields (now (b0 .entry)) (now (b1 .entry)) (now (b2 .entry)) (now (bw .entry))) i j sa sb ta tb n k 0 l first ⌝ }
+{
+    let mut m = first;
+    for z in 0..l {
+        m = plane_in_mean(
+            setup,
+            a0,
+            a1,
+            a2,
+            aw,
+            b0,
+            b1,
+            b2,
+            bw,
+            i + z * ta,
+            j + z * tb,
+            sa,
+            sb,
+            n,
+            k,
+            m,
+        );
+    }
+    m
+}
+
+// A mean with room for its two numbers.
+fn is_mean(kind: Reducer, len: usize) -> bool
+    ensures { λ r. ⌜ r ≡ isMean kind len ⌝ }
+{
+    match kind {
+        Reducer::Comp0Mean => len >= 2,
+        Reducer::ComponentSumMean => len >= 2,
+        Reducer::ComponentSumHistogram(_) => false,
+    }
+}
+
+fn add_mean_block(
+    setup: Setup,
+    a0: &[f64],
+    a1: &[f64],
+    a2: &[f64],
+    aw: &[f64],
+    b0: &[f64],
+    b1: &[f64],
+    b2: &[f64],
+    bw: &[f64],
+    i: usize,
+    j: usize,
+    sa: usize,
+    sb: usize,
+    ta: usize,
+    tb: usize,
+    n: usize,
+    k: usize,
+    l: usize,
+    state: &mut [f64],
+)
+    requires { ⌜ BlockFits (fields (now a0) (now a1) (now a2) (now aw)) i sa ta n k l ⌝ ∗ ⌜ BlockFits (fields (now b0) (now b1) (now b2) (now bw)) j sb tb n k l ⌝ ∗ ⌜ 2 ≤ length (now state) ⌝ }
+    ensures { λ _. ⌜ now (state .exit) ≡ withMean (blockInMean setup (fields (now (a0 .entry)) (now (a1 .entry)) (now (a2 .entry)) (now (aw .entry)))
+        (fields (now (b0 .entry)) (now (b1 .entry)) (now (b2 .entry)) (now (bw .entry))) i j sa sb ta tb n k 0 l (meanIn (now (state .entry)))) (now (state .entry)) ⌝ }
+{
+    let first = Mean {
+        total: state[0],
+        weight: state[1],
+    };
+    let m = block_in_mean(
+        setup,
+        a0,
+        a1,
+        a2,
+        aw,
+        b0,
+        b1,
+        b2,
+        bw,
+        i,
+        j,
+        sa,
+        sb,
+        ta,
+        tb,
+        n,
+        k,
+        l,
+        first,
+    );
+    state[0] = m.total;
+    state[1] = m.weight;
+}
+
+// The cells of a block, by the kind.
+fn add_block(
+    setup: Setup,
+    values: Table,
+    value_edges: &[f64],
+    value_keys: &[u64],
+    hints: &[u8],
+    a0: &[f64],
+    a1: &[f64],
+    a2: &[f64],
+    aw: &[f64],
+    b0: &[f64],
+    b1: &[f64],
+    b2: &[f64],
+    bw: &[f64],
+    i: usize,
+    j: usize,
+    sa: usize,
+    sb: usize,
+    ta: usize,
+    tb: usize,
+    n: usize,
+    k: usize,
+    l: usize,
+    state: &mut [f64],
+)
+    requires { ⌜ BlockFits (fields (now a0) (now a1) (now a2) (now aw)) i sa ta n k l ⌝ ∗ ⌜ BlockFits (fields (now b0) (now b1) (now b2) (now bw)) j sb tb n k l ⌝ ∗ ⌜ TabledValues (setup .reducer) (now «value_edges») values (now «value_keys») ⌝ }
+    ensures { λ _. ⌜ now (state .exit) ≡ blockAdded setup (now («value_edges» .entry)) (fields (now (a0 .entry)) (now (a1 .entry)) (now (a2 .entry)) (now (aw .entry)))
+        (fields (now (b0 .entry)) (now (b1 .entry)) (now (b2 .entry)) (now (bw .entry))) i j sa sb ta tb n k 0 l (now (state .entry)) ⌝ }
+{
+    let kind = setup.reducer;
+    if is_mean(kind, state.len()) {
+        add_mean_block(
+            setup,
+            a0,
+            a1,
+            a2,
+            aw,
+            b0,
+            b1,
+            b2,
+            bw,
+            i,
+            j,
+            sa,
+            sb,
+            ta,
+            tb,
+            n,
+            k,
+            l,
+            state,
+        );
+    } else {
+        add_planes(
+            setup,
+            values,
+            value_edges,
+            value_keys,
+            hints,
+            a0,
+            a1,
+            a2,
+            aw,
+            b0,
+            b1,
+            b2,
+            bw,
+            i,
+            j,
+            sa,
+            sb,
+            ta,
+            tb,
+            n,
+            k,
+            l,
             state,
         );
     }
@@ -515,7 +867,10 @@ fn overlap(a: Block, b: Block, o: Idx3DOffset) -> Axes
 // The cells of the offset, a's with b's, into a state.
 fn add_offset_cells(
     setup: Setup,
+    values: Table,
     value_edges: &[f64],
+    value_keys: &[u64],
+    hints: &[u8],
     a0: &[f64],
     a1: &[f64],
     a2: &[f64],
@@ -530,6 +885,7 @@ fn add_offset_cells(
     state: &mut [f64],
 )
     requires { ⌜ Ready (blockOf a (now a0) (now a1) (now a2) (now aw)) ⌝ ∗ ⌜ Ready (blockOf b (now b0) (now b1) (now b2) (now bw)) ⌝ ∗ ⌜ Reach (axesOf a) (axesOf b) (idxOf o) ⌝ }
+    requires { ⌜ TabledValues (setup .reducer) (now «value_edges») values (now «value_keys») ⌝ }
     ensures { λ _. ⌜ now (state .exit) ≡ offsetCells setup (now («value_edges» .entry)) (blockOf a (now (a0 .entry)) (now (a1 .entry)) (now (a2 .entry)) (now (aw .entry)))
         (blockOf b (now (b0 .entry)) (now (b1 .entry)) (now (b2 .entry)) (now (bw .entry))) (idxOf o) (now (state .entry)) ⌝ }
 {
@@ -538,7 +894,10 @@ fn add_offset_cells(
     let n = overlap(a, b, o);
     add_block(
         setup,
+        values,
         value_edges,
+        value_keys,
+        hints,
         a0,
         a1,
         a2,
@@ -570,13 +929,21 @@ fn clear(state: &mut [f64])
     }
 }
 
+// Where number e of state `bin` stands in a pack.
+fn place_of(n_states: usize, e: usize, bin: usize) -> usize
+    requires { ⌜ «n_states» ≤ 256 ⌝ ∗ ⌜ e < 256 ⌝ ∗ ⌜ bin < 256 ⌝ }
+    ensures { λ r. ⌜ r ≡ place «n_states» e bin ⌝ }
+{
+    e * n_states + bin
+}
+
 // Number e of the state is added to number e of state `bin` of the pack.
 fn merge_state(n_states: usize, bin: usize, state: &[f64], scratch: &mut [f64])
     requires { ⌜ Room «n_states» bin (length (now state)) (length (now scratch)) ⌝ }
     ensures { λ _. ⌜ now (scratch .exit) ≡ stateMerged «n_states» bin (now (state .entry)) 0 (length (now (state .entry))) (now (scratch .entry)) ⌝ }
 {
     for e in 0..state.len() {
-        let at = e * n_states + bin;
+        let at = place_of(n_states, e, bin);
         scratch[at] = scratch[at] + state[e];
     }
 }
@@ -584,24 +951,31 @@ fn merge_state(n_states: usize, bin: usize, state: &[f64], scratch: &mut [f64])
 // The bin of an offset's distance.
 fn bin_of_offset(
     setup: Setup,
+    distances: Table,
     list: &[f64],
+    keys: &[u64],
+    hints: &[u8],
     width: CellWidth,
     a: Block,
     b: Block,
     o: Idx3DOffset,
 ) -> BinIndex
     requires { ⌜ AllNear (o .0) (o .1) (o .2) ⌝ ∗ ⌜ AllNear (a .gz) (a .gy) (a .gx) ⌝ ∗ ⌜ AllNear (b .gz) (b .gy) (b .gx) ⌝ }
+    requires { ⌜ Tabled (setup .edges) (now list) distances (now keys) ⌝ }
     ensures { λ r. ⌜ indexOf r ≡ builtBin (setup .edges) (now (list .entry)) (distanceSquared (widthOf width) (blockOf a [] [] [] []) (blockOf b [] [] [] []) (idxOf o)) ⌝ }
 {
     let edges = setup.edges;
     let distance = distance_squared(width, a, b, o);
-    reducer::bin_of(edges, list, distance)
+    edge_table::bin_of(edges, list, keys, hints, distances, distance)
 }
 
 // The cells of the offset in a fresh state.
 fn sum_cells(
     setup: Setup,
+    values: Table,
     value_edges: &[f64],
+    value_keys: &[u64],
+    hints: &[u8],
     a0: &[f64],
     a1: &[f64],
     a2: &[f64],
@@ -616,13 +990,17 @@ fn sum_cells(
     state: &mut [f64],
 )
     requires { ⌜ Ready (blockOf a (now a0) (now a1) (now a2) (now aw)) ⌝ ∗ ⌜ Ready (blockOf b (now b0) (now b1) (now b2) (now bw)) ⌝ ∗ ⌜ Reach (axesOf a) (axesOf b) (idxOf o) ⌝ }
+    requires { ⌜ TabledValues (setup .reducer) (now «value_edges») values (now «value_keys») ⌝ }
     ensures { λ _. ⌜ now (state .exit) ≡ offsetCells setup (now («value_edges» .entry)) (blockOf a (now (a0 .entry)) (now (a1 .entry)) (now (a2 .entry)) (now (aw .entry)))
         (blockOf b (now (b0 .entry)) (now (b1 .entry)) (now (b2 .entry)) (now (bw .entry))) (idxOf o) (fresh (length (now (state .entry)))) ⌝ }
 {
     clear(state);
     add_offset_cells(
         setup,
+        values,
         value_edges,
+        value_keys,
+        hints,
         a0,
         a1,
         a2,
@@ -641,8 +1019,12 @@ fn sum_cells(
 // The cells of one offset, if its distance has a bin.
 fn add_offset(
     setup: Setup,
+    tables: Tables,
     list: &[f64],
     value_edges: &[f64],
+    keys: &[u64],
+    value_keys: &[u64],
+    hints: &[u8],
     width: CellWidth,
     a0: &[f64],
     a1: &[f64],
@@ -659,15 +1041,21 @@ fn add_offset(
     scratch: &mut [f64],
 )
     requires { ⌜ Ready (blockOf a (now a0) (now a1) (now a2) (now aw)) ⌝ ∗ ⌜ Ready (blockOf b (now b0) (now b1) (now b2) (now bw)) ⌝ ∗ ⌜ Reach (axesOf a) (axesOf b) (idxOf o) ⌝ }
+    requires { ⌜ Looked setup (now list) (now «value_edges») tables (now keys) (now «value_keys») ⌝ }
     requires { ⌜ Roomy setup (now list) (length (now state)) (length (now scratch)) ⌝ }
     ensures { λ _. ⌜ now (scratch .exit) ≡ offsetAdded setup (now (list .entry)) (now («value_edges» .entry)) (widthOf width) (blockOf a (now (a0 .entry)) (now (a1 .entry)) (now (a2 .entry)) (now (aw .entry)))
         (blockOf b (now (b0 .entry)) (now (b1 .entry)) (now (b2 .entry)) (now (bw .entry))) (length (now (state .entry))) (idxOf o) (now (scratch .entry)) ⌝ }
 {
-    match bin_of_offset(setup, list, width, a, b, o) {
+    let distances = tables.distances;
+    let values = tables.values;
+    match bin_of_offset(setup, distances, list, keys, hints, width, a, b, o) {
         BinIndex::At(bin) => {
             sum_cells(
                 setup,
+                values,
                 value_edges,
+                value_keys,
+                hints,
                 a0,
                 a1,
                 a2,
@@ -721,8 +1109,12 @@ fn seq_get(auto: bool, a: Block, b: Block, i: usize) -> Offset
 fn add_number(
     auto: bool,
     setup: Setup,
+    tables: Tables,
     list: &[f64],
     value_edges: &[f64],
+    keys: &[u64],
+    value_keys: &[u64],
+    hints: &[u8],
     width: CellWidth,
     a0: &[f64],
     a1: &[f64],
@@ -739,6 +1131,7 @@ fn add_number(
     scratch: &mut [f64],
 )
     requires { ⌜ Ready (blockOf a (now a0) (now a1) (now a2) (now aw)) ⌝ ∗ ⌜ Ready (blockOf b (now b0) (now b1) (now b2) (now bw)) ⌝ ∗ ⌜ (auto ≡ true → axesOf a ≡ axesOf b) ⌝ ∗ ⌜ i < length (seqFor auto (axesOf a) (axesOf b)) ⌝ }
+    requires { ⌜ Looked setup (now list) (now «value_edges») tables (now keys) (now «value_keys») ⌝ }
     requires { ⌜ Roomy setup (now list) (length (now state)) (length (now scratch)) ⌝ }
     ensures { λ _. ⌜ now (scratch .exit) ≡ numberAdded setup (now (list .entry)) (now («value_edges» .entry)) (widthOf width) (blockOf a (now (a0 .entry)) (now (a1 .entry)) (now (a2 .entry)) (now (aw .entry)))
         (blockOf b (now (b0 .entry)) (now (b1 .entry)) (now (b2 .entry)) (now (bw .entry))) (length (now (state .entry))) (getElem? (seqFor auto (axesOf a) (axesOf b)) i) (now (scratch .entry)) ⌝ }
@@ -746,8 +1139,12 @@ fn add_number(
     match seq_get(auto, a, b, i) {
         Offset::At(o) => add_offset(
             setup,
+            tables,
             list,
             value_edges,
+            keys,
+            value_keys,
+            hints,
             width,
             a0,
             a1,
@@ -771,6 +1168,150 @@ fn add_number(
 fn fill(
     auto: bool,
     setup: Setup,
+    tables: Tables,
+    list: &[f64],
+    value_edges: &[f64],
+    keys: &[u64],
+    value_keys: &[u64],
+    hints: &[u8],
+    width: CellWidth,
+    a0: &[f64],
+    a1: &[f64],
+    a2: &[f64],
+    aw: &[f64],
+    a: Block,
+    b0: &[f64],
+    b1: &[f64],
+    b2: &[f64],
+    bw: &[f64],
+    b: Block,
+    state: &mut [f64],
+    scratch: &mut [f64],
+)
+    requires { ⌜ Ready (blockOf a (now a0) (now a1) (now a2) (now aw)) ⌝ ∗ ⌜ Ready (blockOf b (now b0) (now b1) (now b2) (now bw)) ⌝ ∗ ⌜ (auto ≡ true → axesOf a ≡ axesOf b) ⌝ }
+    requires { ⌜ Looked setup (now list) (now «value_edges») tables (now keys) (now «value_keys») ⌝ }
+    requires { ⌜ Roomy setup (now list) (length (now state)) (length (now scratch)) ⌝ }
+    ensures { λ _. ⌜ now (scratch .exit) ≡ offsetsAdded setup (now (list .entry)) (now («value_edges» .entry)) (widthOf width) (blockOf a (now (a0 .entry)) (now (a1 .entry)) (now (a2 .entry)) (now (aw .entry)))
+        (blockOf b (now (b0 .entry)) (now (b1 .entry)) (now (b2 .entry)) (now (bw .entry))) (length (now (state .entry))) (seqFor auto (axesOf a) (axesOf b)) (now (scratch .entry)) ⌝ }
+{
+    let n = seq_len(auto, a, b);
+    for i in 0..n {
+        add_number(
+            auto,
+            setup,
+            tables,
+            list,
+            value_edges,
+            keys,
+            value_keys,
+            hints,
+            width,
+            a0,
+            a1,
+            a2,
+            aw,
+            a,
+            b0,
+            b1,
+            b2,
+            bw,
+            b,
+            i,
+            state,
+            scratch,
+        );
+    }
+}
+
+// The same, with the tables made here.
+fn fill_keyed(
+    auto: bool,
+    setup: Setup,
+    list: &[f64],
+    value_edges: &[f64],
+    keys: &mut [u64],
+    value_keys: &mut [u64],
+    hints: &mut [u8],
+    width: CellWidth,
+    a0: &[f64],
+    a1: &[f64],
+    a2: &[f64],
+    aw: &[f64],
+    a: Block,
+    b0: &[f64],
+    b1: &[f64],
+    b2: &[f64],
+    bw: &[f64],
+    b: Block,
+    state: &mut [f64],
+    scratch: &mut [f64],
+)
+    requires { ⌜ Ready (blockOf a (now a0) (now a1) (now a2) (now aw)) ⌝ ∗ ⌜ Ready (blockOf b (now b0) (now b1) (now b2) (now bw)) ⌝ ∗ ⌜ (auto ≡ true → axesOf a ≡ axesOf b) ⌝ }
+    requires { ⌜ Findable setup (now list) (now «value_edges») ⌝ }
+    requires { ⌜ Roomy setup (now list) (length (now state)) (length (now scratch)) ⌝ }
+    ensures { λ _. ⌜ now (scratch .exit) ≡ offsetsAdded setup (now (list .entry)) (now («value_edges» .entry)) (widthOf width) (blockOf a (now (a0 .entry)) (now (a1 .entry)) (now (a2 .entry)) (now (aw .entry)))
+        (blockOf b (now (b0 .entry)) (now (b1 .entry)) (now (b2 .entry)) (now (bw .entry))) (length (now (state .entry))) (seqFor auto (axesOf a) (axesOf b)) (now (scratch .entry)) ⌝ }
+{
+    let edges = setup.edges;
+    let kind = setup.reducer;
+    let distances = edge_table::table_of(edges, list, 0.0);
+    let values = edge_table::value_table_of(kind, value_edges, 510.0);
+    let tables = Tables { distances, values };
+    edge_table::keys_of(list, keys);
+    edge_table::keys_of(value_edges, value_keys);
+    edge_table::fill_hints(value_edges, values, hints);
+    fill(
+        auto,
+        setup,
+        tables,
+        list,
+        value_edges,
+        keys,
+        value_keys,
+        hints,
+        width,
+        a0,
+        a1,
+        a2,
+        aw,
+        a,
+        b0,
+        b1,
+        b2,
+        bw,
+        b,
+        state,
+        scratch,
+    );
+}
+
+// How many keys a search in so many edges wants.
+fn key_room(edges: usize) -> usize
+    ensures { λ r. ⌜ r ≤ 257 ⌝ }
+{
+    if edges < 2 {
+        return 0;
+    }
+    if edges <= 33 {
+        return 33;
+    }
+    257
+}
+
+// Edges that are found have hints.
+fn hint_room(edges: usize) -> usize
+    ensures { λ r. ⌜ r ≤ 512 ⌝ }
+{
+    if edges < 2 {
+        return 0;
+    }
+    512
+}
+
+// The same, with the tables' room.
+fn fill_tabled(
+    auto: bool,
+    setup: Setup,
     list: &[f64],
     value_edges: &[f64],
     width: CellWidth,
@@ -788,33 +1329,39 @@ fn fill(
     scratch: &mut [f64],
 )
     requires { ⌜ Ready (blockOf a (now a0) (now a1) (now a2) (now aw)) ⌝ ∗ ⌜ Ready (blockOf b (now b0) (now b1) (now b2) (now bw)) ⌝ ∗ ⌜ (auto ≡ true → axesOf a ≡ axesOf b) ⌝ }
+    requires { ⌜ Findable setup (now list) (now «value_edges») ⌝ }
     requires { ⌜ Roomy setup (now list) (length (now state)) (length (now scratch)) ⌝ }
     ensures { λ _. ⌜ now (scratch .exit) ≡ offsetsAdded setup (now (list .entry)) (now («value_edges» .entry)) (widthOf width) (blockOf a (now (a0 .entry)) (now (a1 .entry)) (now (a2 .entry)) (now (aw .entry)))
         (blockOf b (now (b0 .entry)) (now (b1 .entry)) (now (b2 .entry)) (now (bw .entry))) (length (now (state .entry))) (seqFor auto (axesOf a) (axesOf b)) (now (scratch .entry)) ⌝ }
 {
-    let n = seq_len(auto, a, b);
-    for i in 0..n {
-        add_number(
-            auto,
-            setup,
-            list,
-            value_edges,
-            width,
-            a0,
-            a1,
-            a2,
-            aw,
-            a,
-            b0,
-            b1,
-            b2,
-            bw,
-            b,
-            i,
-            state,
-            scratch,
-        );
-    }
+    let mut keys = [0u64; 257];
+    let mut value_keys = [0u64; 257];
+    let mut hints = [0u8; 512];
+    let room = key_room(list.len());
+    let value_room = key_room(value_edges.len());
+    let hint_room = hint_room(value_edges.len());
+    fill_keyed(
+        auto,
+        setup,
+        list,
+        value_edges,
+        &mut keys[..room],
+        &mut value_keys[..value_room],
+        &mut hints[..hint_room],
+        width,
+        a0,
+        a1,
+        a2,
+        aw,
+        a,
+        b0,
+        b1,
+        b2,
+        bw,
+        b,
+        state,
+        scratch,
+    );
 }
 
 // ---- runs
@@ -847,11 +1394,12 @@ fn run_in(
     pack: &mut [f64],
 )
     requires { ⌜ Ready (blockOf a (now a0) (now a1) (now a2) (now aw)) ⌝ ∗ ⌜ Ready (blockOf b (now b0) (now b1) (now b2) (now bw)) ⌝ ∗ ⌜ (auto ≡ true → axesOf a ≡ axesOf b) ⌝ }
+    requires { ⌜ Findable setup (now list) (now «value_edges») ⌝ }
     requires { ⌜ Roomy setup (now list) (length (now state)) (length (now scratch)) ⌝ }
     ensures { λ _. ⌜ now (pack .exit) ≡ addedScratch (now (pack .entry)) (offsetsAdded setup (now (list .entry)) (now («value_edges» .entry)) (widthOf width) (blockOf a (now (a0 .entry)) (now (a1 .entry)) (now (a2 .entry)) (now (aw .entry)))
         (blockOf b (now (b0 .entry)) (now (b1 .entry)) (now (b2 .entry)) (now (bw .entry))) (length (now (state .entry))) (seqFor auto (axesOf a) (axesOf b)) (now (scratch .entry))) ⌝ }
 {
-    fill(
+    fill_tabled(
         auto,
         setup,
         list,

@@ -4,7 +4,7 @@ use Rattle.twopoint_cartesian.proofs.add_cells.Statement.{statement}
 use Rattle.twopoint_cartesian.proofs.add_cells.Tie as tie
 use Rattle.twopoint_cartesian.proofs.add_cells.Reads as reads
 use Rattle.twopoint_cartesian.proofs.add_cells.Lts as lts
-use Rattle.reducer.proofs.consume.Reads as consume-reads
+use Rattle.edge_table.proofs.consume.Reads as consume-reads
 use Rattle.reducer.proofs.datum_of.Reads as datum-of-reads
 use Rattle.twopoint_cartesian.proofs.cell_at.Reads as cell-at-reads
 
@@ -30,7 +30,7 @@ same-length c = search needs
 
 -- src/lib.rt:93:1
 returns : tie.Need-returns
-returns c = search cells-added
+returns c = cells-added _ _ _ _ _ _ _ _ _ _ _ _ _ _ (c .before .before .before .before .before .before .cell-at .ensures) (c .before .before .before .before .before .cell-at2 .ensures) (c .before .before .before .before .datum-of .ensures) (c .before .before .before .before .before .before .before .before .before .before .before .before .before .before .before .before .before .before .before .pre .1 .1) (c .before .before .consume .ensures)
 
 pub add-cells-spec : {M : Type 1} → statement M
 add-cells-spec =

@@ -12,8 +12,8 @@ use Rattle.twopoint_cartesian.proofs.sum_cells.Reads as sum-cells-reads
 -- src/lib.rt:358:11
 bin-of-offset-requires : tie.Need-bin-of-offset-requires
 bin-of-offset-requires c κs =
-    let s = c .before .before .before .before .before .before .before .before .before .before .before .before in
-    (reach-near _ _ (s .pre .0) (s .pre .1 .0) _ (s .pre .1 .1 .0), (s .pre .0 .global, s .pre .1 .0 .global))
+    let s = c .before .before .before .before .before .before .before .before .before .before .before .before .before .before .before .before .before in
+    (reach-near _ _ (s .pre .0) (s .pre .1 .0) _ (s .pre .1 .1 .0), (s .pre .0 .global, (s .pre .1 .0 .global, s .pre .1 .1 .1 .0 .distances)))
 
 -- src/lib.rt:359:22
 enum-known-bin : tie.Need-enum-known-bin
@@ -21,13 +21,15 @@ enum-known-bin c = search needs
 
 -- src/lib.rt:360:13
 sum-cells-requires : tie.Need-sum-cells-requires
-sum-cells-requires c κs = search needs
+sum-cells-requires c κs =
+    let s = c .before .before .before .before .before .before .before .before .before .before .before .before .before .before .before .before .before .before .before .before .before .before in
+    (s .pre .0, (s .pre .1 .0, (s .pre .1 .1 .0, s .pre .1 .1 .1 .0 .values)))
 
 -- src/lib.rt:361:13
 merge-state-requires : tie.Need-merge-state-requires
 merge-state-requires c κs =
-    let s = c .before .before .before .before .before .before .before .before .before .before .before .before .before .before .before .before .before .before .before .before .before .before in
-    bin-room _ _ _ _ _ _ _ _ _ (c .before .before .before .before .before .before .before .before .before .bin-of-offset .ensures) _ _ _ (c .before .before .before .before .before .before .before .bin .given .1) (c .before .before .before .before .sum-cells .ensures) (s .pre .1 .1 .1)
+    let s = c .before .before .before .before .before .before .before .before .before .before .before .before .before .before .before .before .before .before .before .before .before .before .before .before .before .before .before in
+    bin-room _ _ _ _ _ _ _ _ _ (c .before .before .before .before .before .before .before .before .before .bin-of-offset .ensures) _ _ _ (c .before .before .before .before .before .before .before .bin .given .1) (c .before .before .before .before .sum-cells .ensures) (s .pre .1 .1 .1 .1)
 
 enum-told : tie.Need-enum-told
 enum-told c = search needs
@@ -43,13 +45,11 @@ same-length-2 c = search needs
 -- src/lib.rt:334:1
 returns : tie.Need-returns
 returns c =
-    let s = c .before .before .before .before .before .before .before .before .before .before .before .before .before .before .before .before .before .before .before .before .before .before .before .before .before in
     offset-kept _ _ _ _ _ _ _ _ _ (c .before .before .before .before .before .before .before .before .before .before .before .before .bin-of-offset .ensures) _ _ _ _ (c .before .before .before .before .before .before .before .before .before .before .bin .given .1) (c .before .before .before .before .before .before .before .sum-cells .ensures) (c .before .before .merge-state .ensures)
 
 -- src/lib.rt:334:1
 returns-2 : tie.Need-returns-2
-returns-2 c =
-    offset-dropped _ _ _ _ _ _ _ _ _ (c .before .before .bin-of-offset .ensures) _ (c .enum-told .given .1)
+returns-2 c = offset-dropped _ _ _ _ _ _ _ _ _ (c .before .before .bin-of-offset .ensures) _ (c .enum-told .given .1)
 
 pub add-offset-spec : {M : Type 1} → statement M
 add-offset-spec =

@@ -12,26 +12,26 @@ use Rattle.twopoint_cartesian.proofs.overlap.Reads as overlap-reads
 -- src/lib.rt:266:9
 first-of-a-requires : tie.Need-first-of-a-requires
 first-of-a-requires c κs =
-    let s = c .before .before .before .before .before .before .before .before .before .before in
-    (reach-near _ _ (s .pre .0) (s .pre .1 .0) _ (s .pre .1 .1), placed-a _ _ (s .pre .0) (s .pre .1 .0) _ (s .pre .1 .1))
+    let s = c .before .before .before .before .before .before .before .before .before .before .before .before in
+    (reach-near _ _ (s .pre .0) (s .pre .1 .0) _ (s .pre .1 .1 .0), placed-a _ _ (s .pre .0) (s .pre .1 .0) _ (s .pre .1 .1 .0))
 
 -- src/lib.rt:267:9
 first-of-b-requires : tie.Need-first-of-b-requires
 first-of-b-requires c κs =
-    let s = c .before .before .before .before .before .before .before .before .before .before .before in
-    (reach-near _ _ (s .pre .0) (s .pre .1 .0) _ (s .pre .1 .1), placed-b _ _ (s .pre .0) (s .pre .1 .0) _ (s .pre .1 .1))
+    let s = c .before .before .before .before .before .before .before .before .before .before .before .before .before in
+    (reach-near _ _ (s .pre .0) (s .pre .1 .0) _ (s .pre .1 .1 .0), placed-b _ _ (s .pre .0) (s .pre .1 .0) _ (s .pre .1 .1 .0))
 
 -- src/lib.rt:268:9
 overlap-requires : tie.Need-overlap-requires
 overlap-requires c κs =
-    let s = c .before .before .before .before .before .before .before .before .before .before .before .before in
-    reach-near _ _ (s .pre .0) (s .pre .1 .0) _ (s .pre .1 .1)
+    let s = c .before .before .before .before .before .before .before .before .before .before .before .before .before .before in
+    reach-near _ _ (s .pre .0) (s .pre .1 .0) _ (s .pre .1 .1 .0)
 
 -- src/lib.rt:269:5
 add-block-requires : tie.Need-add-block-requires
 add-block-requires c κs =
-    let s = c .before .before .before .before .before .before .before .before .before .before .before .before .before .before in
-    (answers-a _ _ (s .pre .0) (s .pre .1 .0) _ (s .pre .1 .1) _ (c .before .overlap .ensures) _ (c .before .before .before .first-of-a .ensures), answers-b _ _ (s .pre .0) (s .pre .1 .0) _ (s .pre .1 .1) _ (c .before .overlap .ensures) _ (c .before .before .first-of-b .ensures))
+    let s = c .before .before .before .before .before .before .before .before .before .before .before .before .before .before .before .before in
+    (answers-a _ _ (s .pre .0) (s .pre .1 .0) _ (s .pre .1 .1 .0) _ (c .before .overlap .ensures) _ (c .before .before .before .first-of-a .ensures), (answers-b _ _ (s .pre .0) (s .pre .1 .0) _ (s .pre .1 .1 .0) _ (c .before .overlap .ensures) _ (c .before .before .first-of-b .ensures), s .pre .1 .1 .1))
 
 -- src/lib.rt:246:1
 same-length : tie.Need-same-length
@@ -40,7 +40,7 @@ same-length c = search needs
 -- src/lib.rt:246:1
 returns : tie.Need-returns
 returns c =
-    let s = c .before .before .before .before .before .before .before .before .before .before .before .before .before .before .before .before .before in
+    let s = c .before .before .before .before .before .before .before .before .before .before .before .before .before .before .before .before .before .before .before in
     cells-done _ _ _ _ (s .pre .0) (s .pre .1 .0) _ _ _ _ _ _ (c .before .before .before .before .before .before .first-of-a .ensures) (c .before .before .before .before .before .first-of-b .ensures) (c .before .before .before .before .overlap .ensures) (c .before .before .add-block .ensures)
 
 pub add-offset-cells-spec : {M : Type 1} → statement M

@@ -12,12 +12,12 @@ use Rattle.twopoint_cartesian.proofs.add_row.Lts as lts
 use Rattle.twopoint_cartesian.proofs.add_cells.Reads as add-cells-reads
 
 abbrev Inv-loop : tie.InvT-loop
-Inv-loop setup value-edges a0 a1 a2 aw b0 b1 b2 bw i j n state₀ x₀ state x =
+Inv-loop setup values value-edges value-keys hints a0 a1 a2 aw b0 b1 b2 bw i j n state₀ x₀ state x =
     (x ≤ n) × (length state ≡ length state₀)
     × (rowAdded setup value-edges (fields a0 a1 a2 aw) (fields b0 b1 b2 bw) i j x (n - x) state ≡ rowAdded setup value-edges (fields a0 a1 a2 aw) (fields b0 b1 b2 bw) i j 0 n state₀)
 
 abbrev μ-loop : tie.MeasureT-loop
-μ-loop setup value-edges a0 a1 a2 aw b0 b1 b2 bw i j n state₀ x₀ state x = n - x
+μ-loop setup values value-edges value-keys hints a0 a1 a2 aw b0 b1 b2 bw i j n state₀ x₀ state x = n - x
 
 -- src/lib.rt:141:5
 loop-holds : tie.Need-loop-holds Inv-loop μ-loop
@@ -33,7 +33,7 @@ add-add-cells-2 c = search needs
 
 -- src/lib.rt:142:9
 add-cells-requires : tie.Need-add-cells-requires Inv-loop μ-loop
-add-cells-requires c κs = search needs
+add-cells-requires c κs = (search needs, (search needs, c .before .before .before .before .before .before .before .before .before .before .before .before .before .before .before .pre .1 .1))
 
 -- src/lib.rt:141:9
 add-x : tie.Need-add-x Inv-loop μ-loop

@@ -14,12 +14,12 @@ use Rattle.twopoint_cartesian.proofs.add_number.Reads as add-number-rea
 use Rattle.twopoint_cartesian.proofs.seq_len.Reads as seq-len-reads
 
 abbrev Inv-loop : tie.InvT-loop
-Inv-loop auto setup list value-edges width a0 a1 a2 aw a b0 b1 b2 bw b state₀ scratch₀ n i₀ state scratch i =
+Inv-loop auto setup tables list value-edges keys value-keys hints width a0 a1 a2 aw a b0 b1 b2 bw b state₀ scratch₀ n i₀ state scratch i =
     (i ≤ n) × (length state ≡ length state₀) × (length scratch ≡ length scratch₀)
     × (offsetsAdded setup list value-edges (widthOf width) (blockOf a a0 a1 a2 aw) (blockOf b b0 b1 b2 bw) (length state₀) (drop i (seqFor auto (axesOf a) (axesOf b))) scratch ≡ offsetsAdded setup list value-edges (widthOf width) (blockOf a a0 a1 a2 aw) (blockOf b b0 b1 b2 bw) (length state₀) (seqFor auto (axesOf a) (axesOf b)) scratch₀)
 
 abbrev μ-loop : tie.MeasureT-loop
-μ-loop auto setup list value-edges width a0 a1 a2 aw a b0 b1 b2 bw b state₀ scratch₀ n i₀ state scratch i = n - i
+μ-loop auto setup tables list value-edges keys value-keys hints width a0 a1 a2 aw a b0 b1 b2 bw b state₀ scratch₀ n i₀ state scratch i = n - i
 
 -- src/lib.rt:456:9
 seq-len-requires : tie.Need-seq-len-requires Inv-loop μ-loop
@@ -33,8 +33,8 @@ loop-holds c =
 -- src/lib.rt:458:9
 add-number-requires : tie.Need-add-number-requires Inv-loop μ-loop
 add-number-requires c κs =
-    let s = c .before .before .before .before .before .before .before .before .before .before .before .before .before .before .before .before .before in
-    (s .pre .0, (s .pre .1 .0, (s .pre .1 .1 .0, (omega arith, roomy-same _ _ _ _ _ _ (c .before .before .before .loop .inv .1) (c .before .before .before .loop .inv .2) (s .pre .1 .1 .1)))))
+    let s = c .before .before .before .before .before .before .before .before .before .before .before .before .before .before .before .before .before .before .before .before in
+    (s .pre .0, (s .pre .1 .0, (s .pre .1 .1 .0, (omega arith, (s .pre .1 .1 .1 .0, roomy-same _ _ _ _ _ _ (c .before .before .before .loop .inv .1) (c .before .before .before .loop .inv .2) (s .pre .1 .1 .1 .1))))))
 
 -- src/lib.rt:457:9
 add-i : tie.Need-add-i Inv-loop μ-loop
@@ -47,9 +47,10 @@ loop-less c = search needs
 -- src/lib.rt:457:5
 loop-again : tie.Need-loop-again Inv-loop μ-loop
 loop-again c =
-    let s = c .before .before .before .before .before .before .before .before .before .before .before .before .before .before .before .before .before .before .before .before .before .before in
+    let s = c .before .before .before .before .before .before .before .before .before .before .before .before .before .before .before .before .before .before .before .before .before .before .before .before .before in
     let k = c .before .before .before .before .add-number .kept in
-    (omega arith, omega (arith, k, c .before .before .before .before .before .before .before .before .loop .inv .1), omega (arith, k, c .before .before .before .before .before .before .before .before .loop .inv .2), walk-turn _ _ _ _ _ _ _ (seqFor (s .args .auto) (axesOf (s .args .a)) (axesOf (s .args .b))) _ (c .before .before .before .before .before .before .before .before .loop .i) _ _ _ (c .before .before .before .before .before .before .before .before .loop .inv .1) (c .before .before .before .before .add-number .ensures) (c .before .before .before .before .before .before .before .before .loop .inv .3))
+    let t = c .before .before .before .before .before .before .before .before in
+    (omega (arith, c .before .before .before .before .before .before .before .loop-test .taken), omega (arith, k, t .loop .inv .1), omega (arith, k, t .loop .inv .2), walk-turn _ _ _ _ _ _ _ (seqFor (s .args .auto) (axesOf (s .args .a)) (axesOf (s .args .b))) _ (t .loop .i) _ _ _ (t .loop .inv .1) (c .before .before .before .before .add-number .ensures) (t .loop .inv .3))
 
 -- src/lib.rt:432:1
 same-length : tie.Need-same-length Inv-loop μ-loop
@@ -62,7 +63,7 @@ same-length-2 c = search needs
 -- src/lib.rt:432:1
 returns : tie.Need-returns Inv-loop μ-loop
 returns c =
-    let s = c .before .before .before .before .before .before .before .before .before .before .before .before .before .before .before in
+    let s = c .before .before .before .before .before .before .before .before .before .before .before .before .before .before .before .before .before .before in
     walk-done _ _ _ _ _ _ _ (seqFor (s .args .auto) (axesOf (s .args .a)) (axesOf (s .args .b))) _ (c .before .loop .i) _ (omega arith) (c .before .loop .inv .3)
 
 pub fill-spec : {M : Type 1} → statement M

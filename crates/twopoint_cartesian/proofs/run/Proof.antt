@@ -14,7 +14,8 @@ run-refusal-requires c κs = search needs
 -- src/lib.rt:853:9
 returns : tie.Need-returns
 returns c =
-    (search answer-refused, search stays)
+    let p = c .before .before .before .before .before .before .before .before .before .before .before .before .before .args .pack .now in
+    (answer-refused _ _ _ _ _ _ _ p _ (c .before .run-refusal .ensures) (c .if1 .taken), stays _ _ _ _ _ _ _ p _ (c .before .run-refusal .ensures) (c .if1 .taken))
 
 -- src/lib.rt:855:5
 drive-requires : tie.Need-drive-requires
@@ -28,7 +29,10 @@ same-length c = search needs
 -- src/lib.rt:821:1
 returns-2 : tie.Need-returns-2
 returns-2 c =
-    (search answer-done, search done)
+    let p = c .before .before .before .before .before .before .before .before .before .before .before .before .before .before .before .before .before .args .pack .now in
+    let n = c .before .before .before .before .before .run-refusal .ensures in
+    let z = c .before .before .before .before .if1 .left in
+    (answer-done _ _ _ _ _ _ _ p _ n z, done _ _ _ _ _ _ _ p _ n z _ (c .before .before .drive .ensures))
 
 pub run-spec : {M : Type 1} → statement M
 run-spec = tie.close (tie.spec run-refusal-requires returns drive-requires same-length returns-2)

@@ -14,7 +14,7 @@ clear-requires c κs = search needs
 
 -- src/lib.rt:330:5
 add-offset-cells-requires : tie.Need-add-offset-cells-requires
-add-offset-cells-requires c κs = search needs
+add-offset-cells-requires c κs = c .before .before .before .before .before .before .before .before .before .before .before .before .before .before .before .before .before .pre
 
 -- src/lib.rt:309:1
 same-length : tie.Need-same-length
@@ -22,8 +22,7 @@ same-length c = search needs
 
 -- src/lib.rt:309:1
 returns : tie.Need-returns
-returns c =
-    c .before .before .add-offset-cells .ensures ∙ ap (offsetCells _ _ _ _ _) (c .before .before .before .before .before .before .clear .ensures)
+returns c = c .before .before .add-offset-cells .ensures ∙ ap (offsetCells _ _ _ _ _) (c .before .before .before .before .before .before .clear .ensures)
 
 pub sum-cells-spec : {M : Type 1} → statement M
 sum-cells-spec = tie.close (tie.spec clear-requires add-offset-cells-requires same-length returns)
