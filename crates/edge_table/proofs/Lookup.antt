@@ -22,6 +22,9 @@ use Rattle.definitions.specs.Rules.{refusal, rule, edgesCallRules, kindRules, o
 use Rattle.floats.specs.Order.{orderKey}
 use Rattle.floats.proofs.Keys.{key-order, sorted}
 use Rattle.bins.proofs.Irregular.{halves-at}
+use Rattle.bins.specs.declared.BinIndex.{BinIndex}
+use Rattle.bins.specs.declared.BinIndex.the-variants.{At}
+use Rattle.bins.specs.Answers.{indexOf}
 use Rattle.reducer.specs.declared.Edges.{Edges}
 use Rattle.reducer.specs.declared.Edges.the-variants as edges
 use Rattle.reducer.specs.declared.Kind.{Kind}
@@ -34,7 +37,7 @@ use Rattle.reducer.specs.Readings.{edgesOf, kindOf}
 use Rattle.reducer.specs.Consume.{madeEdges, made, builtBin, valueBin, consumedAt, consumed}
 use Rattle.reducer.proofs.Ways.{consumed-found}
 use Rattle.edge_table.specs.declared.Table.{Table}
-use Rattle.edge_table.specs.Table.{keysTo, keysOf, tableOf, encloses, searched, guessed, triedBin, keyedBin, tableBin, valueTableOf, tableValueBin, tableConsumed}
+use Rattle.edge_table.specs.Table.{keysTo, keysOf, tableOf, encloses, searched, guessed, outsideOf, guessedBin, searchedBin, elseBin, keyedBin, tableBin, valueTableOf, tableValueBin, tableConsumed}
 use Rattle.edge_table.specs.Tabled.{Usable, EndsOf, Keys, Tabled, UsableValues, TabledValues}
 
 -- ---- a value outside the ends has no bin
@@ -119,19 +122,54 @@ module _ (es : List Float) (x : Float) (f : fits binary64 x ≡ true) (table : T
       go true c = found-bin-is es x f table keys t g c v
       go false c = e
 
-  guessed-bin : (h : ℕ) → cond (isNan x || lt x (table .first) || le (table .last) x) none (triedBin es keys h x) ≡ builtBin Irregular es x
-  unfolding triedBin builtBin irregularIndex
-  guessed-bin h = rw (t .ends .0, t .ends .1) (go (outside es x) refl)
+  ends : outsideOf table x ≡ outside es x
+  unfolding outsideOf
+  ends = rw (t .ends .0, t .ends .1)
+
+  none-outside : outside es x ≡ true → none ≡ builtBin Irregular es x
+  unfolding builtBin irregularIndex
+  none-outside v = rw v
+
+  searched-found : searchedBin es keys table x ≡ builtBin Irregular es x
+  unfolding searchedBin
+  searched-found = rw ends (go (outside es x) refl)
     where
-      go : (b : Bool) → outside es x ≡ b → cond b none (triedBin es keys h x) ≡ below (length es - 1) (cond b none (lastEdge es x (length es)))
-      go true v = refl
-      go false v = tried v h _ (tried v (searched (length es - 1) keys (orderKey x)) _ refl) ∙ rw v
+      g : ℕ
+      g = searched (length es - 1) keys (orderKey x)
+
+      go : (b : Bool) → outside es x ≡ b → cond b none (cond (encloses (length es - 1) keys (orderKey x) g) (some g) (builtBin Irregular es x)) ≡ builtBin Irregular es x
+      go true v = none-outside v
+      go false v = tried v g _ refl
+
+  guessed-else : (hints : List ℕ) (o : Option ℕ) → o ≡ builtBin Irregular es x → elseBin (guessedBin (length es) keys hints table x) o ≡ builtBin Irregular es x
+  unfolding guessedBin
+  guessed-else hints o e = rw ends (go (outside es x) refl)
+    where
+      g : ℕ
+      g = guessed keys hints table x
+
+      else-cond : (b : Bool) → elseBin (cond b (some g) none) o ≡ cond b (some g) o
+      else-cond true = refl
+      else-cond false = refl
+
+      go : (b : Bool) → outside es x ≡ b → elseBin (cond b none (cond (encloses (length es - 1) keys (orderKey x) g) (some g) none)) o ≡ builtBin Irregular es x
+      go true v = e
+      go false v = else-cond (encloses (length es - 1) keys (orderKey x) g) ∙ tried v g o e
+
+-- r is the answer of `guessed_bin`
+pub guess-found : (es : List Float) (keys hints : List ℕ) (table : Table) (x : Float) (r : BinIndex) (b : ℕ) → indexOf r ≡ guessedBin (length es) keys hints table x → r ≡ At b → Tabled Irregular es table keys
+    → fits binary64 x ≡ true → some b ≡ builtBin Irregular es x
+guess-found es keys hints table x r b e h t f = ap (λ (o : Option ℕ). elseBin o (builtBin Irregular es x)) (sym (ap indexOf h) ∙ e) ∙ guessed-else es x f table keys t hints (builtBin Irregular es x) refl
+
+-- o is that of `searched_bin`
+pub search-found : (es : List Float) (keys : List ℕ) (table : Table) (x : Float) (o : Option ℕ) → o ≡ searchedBin es keys table x → Tabled Irregular es table keys → fits binary64 x ≡ true → o ≡ builtBin Irregular es x
+search-found es keys table x o e t f = e ∙ searched-found es x f table keys t
 
 pub table-bin : (edges : BuiltEdges) (es : List Float) (keys hints : List ℕ) (table : Table) (x : Float) → Tabled edges es table keys → fits binary64 x ≡ true
     → tableBin edges es keys hints table x ≡ builtBin edges es x
 unfolding tableBin keyedBin
 table-bin (Regular e) es keys hints table x t f = refl
-table-bin Irregular es keys hints table x t f = guessed-bin es x f table keys t (guessed keys hints table x)
+table-bin Irregular es keys hints table x t f = guessed-else es x f table keys t hints _ (searched-found es x f table keys t)
 
 -- o is what `bin_of` returned
 pub found-bin : (edges : BuiltEdges) (es : List Float) (keys hints : List ℕ) (table : Table) (x : Float) (o : Option ℕ) → o ≡ tableBin edges es keys hints table x → Tabled edges es table keys

@@ -18,6 +18,7 @@ use Rattle.floats.specs.Order.{orderKey}
 use Rattle.floats.proofs.Keys.{key-plus, key-minus}
 use Rattle.bins.specs.declared.RegularBinEdges.{RegularBinEdges}
 use Rattle.bins.specs.declared.BinIndex.{BinIndex}
+use Rattle.bins.specs.declared.BinIndex.the-variants.{At, None}
 use Rattle.bins.specs.Answers.{indexOf}
 use Rattle.reducer.specs.declared.BuiltEdges.{BuiltEdges}
 use Rattle.reducer.specs.declared.BuiltEdges.the-variants.{Regular, Irregular}
@@ -25,7 +26,7 @@ use Rattle.reducer.specs.declared.Reducer.{Reducer}
 use Rattle.reducer.specs.declared.Reducer.the-variants.{Comp0Mean, ComponentSumMean, ComponentSumHistogram}
 use Rattle.reducer.specs.Consume.{builtBin, consumedAt}
 use Rattle.edge_table.specs.declared.Table.{Table}
-use Rattle.edge_table.specs.Table.{keysTo, keysOf, tableOf, placeOf, endOf, spread, binHinted, hintsOf, bit, rise, among32, searched, encloses, nudged, guessed, triedBin, keyedBin, tableBin, valueTableOf, tableValueBin, tableConsumed}
+use Rattle.edge_table.specs.Table.{keysTo, keysOf, tableOf, placeOf, endOf, spread, binHinted, hintsOf, bit, rise, among32, searched, encloses, nudged, guessed, outsideOf, guessedBin, searchedBin, keyedBin, tableBin, valueTableOf, tableValueBin, tableConsumed}
 
 -- ---- keys
 module _ (list : List Float) (keys : List ℕ) where
@@ -192,39 +193,59 @@ pub guessed-is : (keys hints : List ℕ) (table : Table) (x : Float) (h k r : �
 unfolding guessed
 guessed-is keys hints table x h k r p q e = rw (← p, ← q) e
 
--- s and u are the answers of `is_enclosed`, g of `search`
-module _ (list : List Float) (keys : List ℕ) (h : ℕ) (x : Float) (n k : ℕ) (m : n ≡ length list - 1) (l : k ≡ orderKey x) (s : Bool) (e : s ≡ encloses n keys k h) where
-  pub tried-guess : s ≡ true → some h ≡ triedBin list keys h x
-  unfolding triedBin
-  tried-guess t = rw (← m, ← l, ← e, t)
-
-  module _ (t : s ≡ false) (g : ℕ) (v : g ≡ searched n keys k) (u : Bool) (w : u ≡ encloses n keys k g) where
-    pub tried-search : u ≡ true → some g ≡ triedBin list keys h x
-    unfolding triedBin
-    tried-search y = rw (← m, ← l, ← e, t, ← v, ← w, y)
-
-    pub tried-plain : (o : Option ℕ) → u ≡ false → o ≡ builtBin Irregular list x → o ≡ triedBin list keys h x
-    unfolding triedBin
-    tried-plain o y z = rw (← m, ← l, ← e, t, ← v, ← w, y) z
-
-module _ (list : List Float) (keys hints : List ℕ) (table : Table) (x : Float) (r : Bool) (q : r ≡ isNan x) where
-  pub keyed-nan : r ≡ true → none ≡ keyedBin list keys hints table x
-  unfolding keyedBin
-  keyed-nan t = rw (← q, t)
+-- r is the answer of `is_nan`
+module _ (table : Table) (x : Float) (r : Bool) (q : r ≡ isNan x) where
+  pub outside-nan : r ≡ true → true ≡ outsideOf table x
+  unfolding outsideOf
+  outside-nan t = rw (← q, t)
 
   module _ (a : r ≡ false) where
-    pub keyed-low : lt x (table .first) ≡ true → none ≡ keyedBin list keys hints table x
-    unfolding keyedBin
-    keyed-low t = rw (← q, a, t)
+    pub outside-low : lt x (table .first) ≡ true → true ≡ outsideOf table x
+    unfolding outsideOf
+    outside-low t = rw (← q, a, t)
 
-    module _ (b : lt x (table .first) ≡ false) where
-      pub keyed-high : le (table .last) x ≡ true → none ≡ keyedBin list keys hints table x
-      unfolding keyedBin
-      keyed-high t = rw (← q, a, b, t)
+    pub outside-high : lt x (table .first) ≡ false → le (table .last) x ≡ outsideOf table x
+    unfolding outsideOf
+    outside-high t = rw (← q, a, t)
 
-      pub keyed-inside : (h : ℕ) (o : Option ℕ) → le (table .last) x ≡ false → h ≡ guessed keys hints table x → o ≡ triedBin list keys h x → o ≡ keyedBin list keys hints table x
-      unfolding keyedBin
-      keyed-inside h o c e f = rw (← q, a, b, c, ← e) f
+-- r is the answer of `is_outside`, s and u of `is_enclosed`, g of `search`
+module _ (keys : List ℕ) (table : Table) (x : Float) (r : Bool) (q : r ≡ outsideOf table x) where
+  pub guessed-outside : (hints : List ℕ) (m : ℕ) → r ≡ true → none ≡ guessedBin m keys hints table x
+  unfolding guessedBin
+  guessed-outside hints m t = rw (← q, t)
+
+  pub searched-outside : (list : List Float) → r ≡ true → none ≡ searchedBin list keys table x
+  unfolding searchedBin
+  searched-outside list t = rw (← q, t)
+
+  module _ (a : r ≡ false) (k : ℕ) (l : k ≡ orderKey x) where
+    module _ (hints : List ℕ) (m n : ℕ) (e : n ≡ m - 1) (h : ℕ) (f : h ≡ guessed keys hints table x) (s : Bool) (d : s ≡ encloses n keys k h) where
+      pub guessed-right : s ≡ true → some h ≡ guessedBin m keys hints table x
+      unfolding guessedBin
+      guessed-right t = rw (← q, a, ← l, ← e, ← f, ← d, t)
+
+      pub guessed-wrong : s ≡ false → none ≡ guessedBin m keys hints table x
+      unfolding guessedBin
+      guessed-wrong t = rw (← q, a, ← l, ← e, ← f, ← d, t)
+
+    module _ (list : List Float) (n : ℕ) (e : n ≡ length list - 1) (g : ℕ) (v : g ≡ searched n keys k) (u : Bool) (w : u ≡ encloses n keys k g) where
+      pub searched-right : u ≡ true → some g ≡ searchedBin list keys table x
+      unfolding searchedBin
+      searched-right t = rw (← q, a, ← l, ← e, ← v, ← w, t)
+
+      pub searched-plain : (o : Option ℕ) → u ≡ false → o ≡ builtBin Irregular list x → o ≡ searchedBin list keys table x
+      unfolding searchedBin
+      searched-plain o t z = rw (← q, a, ← l, ← e, ← v, ← w, t) z
+
+-- r is the answer of `guessed_bin`
+module _ (list : List Float) (keys hints : List ℕ) (table : Table) (x : Float) (r : BinIndex) (q : indexOf r ≡ guessedBin (length list) keys hints table x) where
+  pub keyed-guess : (b : ℕ) → r ≡ At b → some b ≡ keyedBin list keys hints table x
+  unfolding keyedBin
+  keyed-guess b t = rw (← q, t)
+
+  pub keyed-search : (o : Option ℕ) → r ≡ None → o ≡ searchedBin list keys table x → o ≡ keyedBin list keys hints table x
+  unfolding keyedBin
+  keyed-search o t z = rw (← q, t) z
 
 module _ (edges : BuiltEdges) (list : List Float) (keys hints : List ℕ) (table : Table) (x : Float) (o : Option ℕ) where
   pub bin-regular : (e : RegularBinEdges) → edges ≡ Regular e → o ≡ builtBin edges list x → o ≡ tableBin edges list keys hints table x

@@ -84,15 +84,26 @@ nudged keys k h = cond (ltb (h + 1) (length keys)) (rise keys k 1 h) h
 unfoldable pub guessed : List ℕ → List ℕ → Table → Float → ℕ
 guessed keys hints table x = nudged keys (orderKey x) (getD hints (placeOf table x) 0)
 
--- the guess h or what the search finds, where its keys enclose the value's; else the plain lookup
-unfoldable pub triedBin : List Float → List ℕ → ℕ → Float → Option ℕ
-triedBin list keys h x =
-    cond (encloses (length list - 1) keys (orderKey x) h) (some h)
-    (cond (encloses (length list - 1) keys (orderKey x) (searched (length list - 1) keys (orderKey x))) (some (searched (length list - 1) keys (orderKey x)))
-    (builtBin Irregular list x))
+unfoldable pub outsideOf : Table → Float → Bool
+outsideOf table x = isNan x || lt x (table .first) || le (table .last) x
+
+-- the guess, where its keys enclose the value's; m is how many edges there are
+unfoldable pub guessedBin : ℕ → List ℕ → List ℕ → Table → Float → Option ℕ
+guessedBin m keys hints table x =
+    cond (outsideOf table x) none (cond (encloses (m - 1) keys (orderKey x) (guessed keys hints table x)) (some (guessed keys hints table x)) none)
+
+-- what the search finds, where its keys do; else the plain lookup
+unfoldable pub searchedBin : List Float → List ℕ → Table → Float → Option ℕ
+searchedBin list keys table x =
+    cond (outsideOf table x) none
+    (cond (encloses (length list - 1) keys (orderKey x) (searched (length list - 1) keys (orderKey x))) (some (searched (length list - 1) keys (orderKey x))) (builtBin Irregular list x))
+
+abbrev pub elseBin : Option ℕ → Option ℕ → Option ℕ
+elseBin (some b) o = some b
+elseBin none o = o
 
 unfoldable pub keyedBin : List Float → List ℕ → List ℕ → Table → Float → Option ℕ
-keyedBin list keys hints table x = cond (isNan x || lt x (table .first) || le (table .last) x) none (triedBin list keys (guessed keys hints table x) x)
+keyedBin list keys hints table x = elseBin (guessedBin (length list) keys hints table x) (searchedBin list keys table x)
 
 unfoldable pub tableBin : BuiltEdges → List Float → List ℕ → List ℕ → Table → Float → Option ℕ
 tableBin (Regular e) list keys hints table x = builtBin (Regular e) list x

@@ -10,7 +10,7 @@ ghost use Rattle.definitions.specs.Lists.{at};
 ghost use Rattle.floats.specs.Order.{orderKey};
 ghost use Rattle.bins.specs.Answers.{indexOf};
 ghost use Rattle.reducer.specs.Readings.{theDatum};
-ghost use Rattle.edge_table.specs.Table.{keysOf, tableOf, placeOf, endOf, spread, binHinted, hintsOf, rise, among32, searched, encloses, nudged, guessed, triedBin, keyedBin, tableBin, noTable, valueTableOf, tableValueBin, tableConsumed};
+ghost use Rattle.edge_table.specs.Table.{keysOf, tableOf, placeOf, endOf, spread, binHinted, hintsOf, rise, among32, searched, encloses, nudged, guessed, outsideOf, guessedBin, searchedBin, keyedBin, tableBin, noTable, valueTableOf, tableValueBin, tableConsumed};
 
 // Ends of the edges, and places of hints a unit of the value.
 pub struct Table {
@@ -28,13 +28,22 @@ fn edge_at(list: &[f64], i: usize) -> f64
     if i < list.len() { list[i] } else { 0.0 / 0.0 }
 }
 
+// The order key without a branch on the sign, which may change from value to value.
+fn key_of(x: f64) -> u64
+    ensures { λ r. ⌜ r ≡ orderKey x ⌝ }
+{
+    let bits = floats::to_bits(x);
+    let low = bits % 0x8000_0000_0000_0000;
+    0x8000_0000_0000_0000 + low - (bits / 0x8000_0000_0000_0000) * (2 * low + 1)
+}
+
 // The key of each edge, then NaNs' keys.
 pub fn keys_of(list: &[f64], keys: &mut [u64])
     ensures { λ _. ⌜ now (keys .exit) ≡ keysOf (now (list .entry)) (now (keys .entry)) ⌝ }
 {
     let mut i = 0;
     while i < keys.len() {
-        keys[i] = floats::total_key(edge_at(list, i));
+        keys[i] = key_of(edge_at(list, i));
         i += 1;
     }
 }
@@ -114,15 +123,6 @@ pub fn fill_hints(list: &[f64], table: Table, hints: &mut [u8])
 }
 
 // ---- lookups
-
-// The order key without a branch on the sign, which may change from value to value.
-fn key_of(x: f64) -> u64
-    ensures { λ r. ⌜ r ≡ orderKey x ⌝ }
-{
-    let bits = floats::to_bits(x);
-    let low = bits % 0x8000_0000_0000_0000;
-    0x8000_0000_0000_0000 + low - (bits / 0x8000_0000_0000_0000) * (2 * low + 1)
-}
 
 // The hint at the value's place; 0 where there is none.
 fn hint_at(hints: &[u8], table: Table, value: f64) -> usize
@@ -209,16 +209,49 @@ fn guess(keys: &[u64], hints: &[u8], table: Table, value: f64) -> usize
     nudge(keys, key_of(value), h)
 }
 
-// The guess h or the bin that the search finds, where it is right.
-fn tried_bin(list: &[f64], keys: &[u64], h: usize, value: f64) -> BinIndex
-    requires { ⌜ h ≤ 256 ⌝ }
-    ensures { λ r. ⌜ indexOf r ≡ triedBin (now (list .entry)) (now (keys .entry)) h value ⌝ }
+// Whether the value has no bin: a NaN, or outside the ends.
+fn is_outside(table: Table, value: f64) -> bool
+    ensures { λ r. ⌜ r ≡ outsideOf table value ⌝ }
 {
-    let n = reducer::n_bins(BuiltEdges::Irregular, list.len());
-    let key = key_of(value);
-    if is_enclosed(n, keys, key, h) {
+    if floats::is_nan(value) {
+        return true;
+    }
+    if value < table.first {
+        return true;
+    }
+    table.last <= value
+}
+
+// The bin in irregular edges by the hint at the value's place, where it is right. Small, so that a caller's loop can hold it.
+pub fn guessed_bin(
+    list_len: usize,
+    keys: &[u64],
+    hints: &[u8],
+    table: Table,
+    value: f64,
+) -> BinIndex
+    ensures { λ r. ⌜ indexOf r ≡ guessedBin «list_len» (now (keys .entry)) (now (hints .entry)) table value ⌝ }
+{
+    if is_outside(table, value) {
+        return BinIndex::None;
+    }
+    let n = reducer::n_bins(BuiltEdges::Irregular, list_len);
+    let h = guess(keys, hints, table, value);
+    if is_enclosed(n, keys, key_of(value), h) {
         return BinIndex::At(h);
     }
+    BinIndex::None
+}
+
+// The bin in irregular edges by the search, where it is right.
+pub fn searched_bin(list: &[f64], keys: &[u64], table: Table, value: f64) -> BinIndex
+    ensures { λ r. ⌜ indexOf r ≡ searchedBin (now (list .entry)) (now (keys .entry)) table value ⌝ }
+{
+    if is_outside(table, value) {
+        return BinIndex::None;
+    }
+    let n = reducer::n_bins(BuiltEdges::Irregular, list.len());
+    let key = key_of(value);
     let b = search(n, keys, key);
     if is_enclosed(n, keys, key, b) {
         return BinIndex::At(b);
@@ -226,21 +259,14 @@ fn tried_bin(list: &[f64], keys: &[u64], h: usize, value: f64) -> BinIndex
     reducer::bin_of(BuiltEdges::Irregular, list, value)
 }
 
-// The bin in irregular edges: the end tests, then by keys.
+// The bin in irregular edges: the guess, then the search.
 fn keyed_bin(list: &[f64], keys: &[u64], hints: &[u8], table: Table, value: f64) -> BinIndex
     ensures { λ r. ⌜ indexOf r ≡ keyedBin (now (list .entry)) (now (keys .entry)) (now (hints .entry)) table value ⌝ }
 {
-    if floats::is_nan(value) {
-        return BinIndex::None;
+    match guessed_bin(list.len(), keys, hints, table, value) {
+        BinIndex::At(b) => BinIndex::At(b),
+        BinIndex::None => searched_bin(list, keys, table, value),
     }
-    if value < table.first {
-        return BinIndex::None;
-    }
-    if table.last <= value {
-        return BinIndex::None;
-    }
-    let h = guess(keys, hints, table, value);
-    tried_bin(list, keys, h, value)
 }
 
 // A bin by the table: the edges' own where keys and table are theirs.

@@ -1,49 +1,39 @@
 -- Rows in batches: edges looked up by keys, and the pairs left out of a batch.
 use mathlib.Core.Path.{_≡_, refl, sym, ap, subst, _∙_}
 use mathlib.Core.Option.{Option, none, some}
-use mathlib.Core.Bool.{Bool, true, false, cond, _||_, true≢false}
+use mathlib.Core.Bool.{Bool, true, false}
 use mathlib.Core.Logic.{⊎-elim}
 use mathlib.Core.List.{List, [], _∷_, _++_, map}
-use mir.Val.{boolByte}
 use Prim.Native.Nat.{ℕ, zero, suc, _+_, _-_, _*_, _<_, _≤_, zero-le}
 use native.Mathlib.Nat.{eq-or-lt-of-le, lt-irrefl, add-zero, zero-add, add-suc, le-refl, le-trans, not-suc-le-zero, le-of-suc-le-suc}
 use native.Mathlib.Numerals.{add-one}
 use native.Mathlib.Omega.{arith}
-use borrow.Author.Tests.{lt-ltb, le-leb, lt-leb}
-use lib.Dec.{T, leb, ltb}
 use lib.ListN.{length, getD, set, take}
 use lib.Seq.{getD-set-same, getD-set-other, take-suc, getD-take, take-set-le, take-suc-set}
-use lib.Ieee.{Float, nan, binary64, lt, le, isNan, fits}
-use Rattle.definitions.specs.Lists.{at, range}
-use Rattle.definitions.specs.Floats.{notAfter}
-use Rattle.definitions.specs.Bins.{irregular, regularIndex, irregularIndex, lastEdge, below}
+use lib.Ieee.{Float, nan, binary64, lt, le}
+use Rattle.definitions.specs.Floats.{asUsize}
+use Rattle.definitions.specs.Bins.{regularIndex, below}
 use Rattle.definitions.specs.Points as points
 use Rattle.definitions.specs.Points.{squaredDiffNorm}
-use Rattle.definitions.specs.Rules.{refusal, edgesCallRules}
-use Rattle.floats.specs.Order.{orderKey}
-use Rattle.floats.proofs.Keys.{key-order, sorted}
+use Rattle.definitions.specs.Reducer.{Datum, componentSum, pairIn, datumOf}
 use Rattle.bins.specs.declared.RegularBinEdges.{RegularBinEdges}
-use Rattle.bins.specs.declared.Validated.{Validated}
-use Rattle.bins.specs.declared.Validated.the-variants.{Accepted}
-use Rattle.bins.specs.Answers.{validNumber}
-use Rattle.bins.proofs.Irregular.{halves-at}
-use Rattle.bins.proofs.Lookups.{ready-finite, ready-increasing}
 use Rattle.reducer.specs.declared.BuiltEdges.{BuiltEdges}
 use Rattle.reducer.specs.declared.BuiltEdges.the-variants.{Regular, Irregular}
-use Rattle.reducer.specs.Consume.{builtBins, builtFind, builtBin}
+use Rattle.reducer.specs.declared.Reducer.{Reducer}
+use Rattle.reducer.specs.declared.Reducer.the-variants.{Comp0Mean, ComponentSumMean, ComponentSumHistogram}
+use Rattle.reducer.specs.Readings.{opOf}
+use Rattle.reducer.specs.Consume.{builtBin, valueBin}
+use Rattle.edge_table.specs.declared.Table.{Table}
+use Rattle.edge_table.specs.Tabled.{EndsOf, Tabled, TabledValues}
+use Rattle.edge_table.proofs.Lookup.{bin-low, bin-high}
 use Rattle.unstructured.specs.declared.Setup.{Setup}
-use Rattle.unstructured.specs.declared.Table.{Table}
 use Rattle.unstructured.specs.Pairs.{builtPair, pairAdded, pairStep, rowAdded}
-use Rattle.unstructured.specs.Batches.{Searchable, Usable, EndsOf, Keys, Tabled, bit, inside, also, keptBelow, overList, batchStep}
+use Rattle.unstructured.specs.Batches.{quotient, looked, lookedBin, lookedPair, listedStep, bit, inside, also, keptBelow, overList}
 
 -- ---- bits
 pub bit-le : (t : Bool) → bit t ≤ 1
 bit-le true = le-refl 1
 bit-le false = zero-le
-
-pub byte-le : (t : Bool) → boolByte t ≤ 1
-byte-le true = le-refl 1
-byte-le false = zero-le
 
 pub bits-le : (a b : Bool) → (1 - bit a) * (1 - bit b) ≤ 1
 bits-le true true = zero-le
@@ -59,82 +49,55 @@ stored-next {A} o d e v g h p q x l =
     ⊎-elim (λ (z : x ≡ e). ap (λ (y : ℕ). getD (set d e v) y o) z ∙ getD-set-same d e v o h ∙ p ∙ ap g (sym z))
     (λ (z : x < e). getD-set-other d e x v o (λ (y : x ≡ e). lt-irrefl e (subst (λ (n : ℕ). n < e) y z)) ∙ q x z) (eq-or-lt-of-le k)
 
--- ---- edges that can be looked up
-module _ (edges : BuiltEdges) (es : List Float) where
-  pub usable-regular : (e : RegularBinEdges) → edges ≡ Regular e → Usable edges es
-  usable-regular e h = rw h tt
+-- ---- lookups
+module _ (edges : BuiltEdges) (list : List Float) (x : Float) (o : Option ℕ) where
+  pub look-regular : (e : RegularBinEdges) (i : ℕ) → edges ≡ Regular e → i ≡ asUsize x → o ≡ below (e .«n_bins») (some i) → o ≡ lookedBin edges list x
+  unfolding lookedBin
+  look-regular e i h k q = q ∙ (rw (k, h))
 
-  pub usable-accepted : edges ≡ Irregular → length es ≤ 257 → 2 ≤ length es → (r : Validated) → validNumber r ≡ refusal (edgesCallRules (irregular es)) → r ≡ Accepted → Usable edges es
-  usable-accepted h few two r q t = rw h (record { two = two; few = few; finite = ready-finite es r q t; increasing = ready-increasing es r q t })
+  pub look-irregular : edges ≡ Irregular → o ≡ builtBin Irregular list x → o ≡ lookedBin edges list x
+  unfolding lookedBin
+  look-irregular h q = q ∙ (rw h)
 
-  pub usable-two : edges ≡ Irregular → Usable edges es → 2 ≤ length es
-  usable-two h u = (subst (λ (e : BuiltEdges). Usable e es) h u) .two
+  pub bin-irregular : edges ≡ Irregular → o ≡ builtBin Irregular list x → o ≡ builtBin edges list x
+  bin-irregular h q = q ∙ (rw h)
 
-  pub ends-regular : (e : RegularBinEdges) → edges ≡ Regular e → EndsOf edges es (e .min) (e .max)
-  ends-regular e h = rw h (refl, refl)
+pub tabled-irregular : (edges : BuiltEdges) (list : List Float) (table : Table) (keys : List ℕ) → edges ≡ Irregular → Tabled edges list table keys → Tabled Irregular list table keys
+tabled-irregular edges list table keys h t = subst (λ (e : BuiltEdges). Tabled e list table keys) h t
 
-  pub ends-irregular : edges ≡ Irregular → EndsOf edges es (at es 0) (at es (length es - 1))
-  ends-irregular h = rw h (refl, refl)
+-- ---- values
+module _ (kind : Reducer) (list : List Float) (d : Datum) where
+  pub value-mean0 : kind ≡ Comp0Mean → none ≡ valueBin kind list d
+  value-mean0 h = rw h
 
--- ---- a value outside the ends has no bin
-low-none : (a b c : Bool) (o : Option ℕ) → b ≡ true → none ≡ cond (a || b || c) none o
-low-none true b c o h = refl
-low-none false true c o h = refl
-low-none false false c o h = absurd (true≢false (sym h))
+  pub value-mean : kind ≡ ComponentSumMean → none ≡ valueBin kind list d
+  value-mean h = rw h
 
-high-none : (a b c : Bool) (o : Option ℕ) → c ≡ true → none ≡ cond (a || b || c) none o
-high-none true b c o h = refl
-high-none false true c o h = refl
-high-none false false true o h = refl
-high-none false false false o h = absurd (true≢false (sym h))
+  pub value-found : (e : BuiltEdges) (v : Float) (o : Option ℕ) → kind ≡ ComponentSumHistogram e → v ≡ componentSum d → o ≡ builtBin e list v → o ≡ valueBin kind list d
+  value-found e v o h k q = q ∙ ap (builtBin e list) k ∙ (rw h)
 
-module _ (es : List Float) (first last x : Float) where
-  pub bin-low : (edges : BuiltEdges) → EndsOf edges es first last → lt x first ≡ true → none ≡ builtBin edges es x
-  unfolding builtBin regularIndex irregularIndex
-  bin-low (Regular e) ends h = ap (below (e .«n_bins»)) (low-none false (lt x (e .min)) (le (e .max) x) _ (ap (lt x) (sym (ends .0)) ∙ h))
-  bin-low Irregular ends h = ap (below (length es - 1)) (low-none (isNan x) (lt x (at es 0)) (le (at es (length es - 1)) x) _ (ap (lt x) (sym (ends .0)) ∙ h))
+pub tabled-histogram : (kind : Reducer) (list : List Float) (table : Table) (keys : List ℕ) (e : BuiltEdges) → kind ≡ ComponentSumHistogram e → TabledValues kind list table keys → Tabled e list table keys
+tabled-histogram kind list table keys e h t = subst (λ (r : Reducer). TabledValues r list table keys) h t
 
-  pub bin-high : (edges : BuiltEdges) → EndsOf edges es first last → le last x ≡ true → none ≡ builtBin edges es x
-  unfolding builtBin regularIndex irregularIndex
-  bin-high (Regular e) ends h = ap (below (e .«n_bins»)) (high-none false (lt x (e .min)) (le (e .max) x) _ (ap (λ (y : Float). le y x) (sym (ends .1)) ∙ h))
-  bin-high Irregular ends h = ap (below (length es - 1)) (high-none (isNan x) (lt x (at es 0)) (le (at es (length es - 1)) x) _ (ap (λ (y : Float). le y x) (sym (ends .1)) ∙ h))
+-- within the ends it is the edges' own
+looked-bin : (edges : BuiltEdges) (list : List Float) (first last x : Float) → EndsOf edges list first last → lt x first ≡ false → le last x ≡ false → lookedBin edges list (looked edges x) ≡ builtBin edges list x
+unfolding lookedBin builtBin regularIndex
+looked-bin (Regular e) list first last x ends low high =
+    let lo : lt x (e .min) ≡ false = ap (lt x) (sym (ends .0)) ∙ low in
+    let hi : le (e .max) x ≡ false = ap (λ (y : Float). le y x) (sym (ends .1)) ∙ high in
+    rw (lo, hi)
+looked-bin Irregular list first last x ends low high = refl
 
-pub bin-nan : (es : List Float) (x : Float) (r : Bool) → r ≡ isNan x → r ≡ true → none ≡ builtBin Irregular es x
-unfolding builtBin irregularIndex
-bin-nan es x r q h = rw (← q, h)
+-- what is written in place of a distance
+pub looked-regular : (edges : BuiltEdges) (e : RegularBinEdges) (x y : Float) → edges ≡ Regular e → y ≡ quotient e x → y ≡ looked edges x
+looked-regular edges e x y h q = q ∙ (rw h)
 
--- ---- a bin whose keys enclose the value's is the value's
-module _ (es : List Float) (x : Float) (f : fits binary64 x ≡ true) (w : (i : ℕ) → T (fits binary64 (at es i))) (table : Table) (keys : List ℕ) (t : Tabled Irregular es table keys)
-    (key : ℕ) (p : key ≡ orderKey x) (g : ℕ) (l : g < length es - 1) (a : getD keys g 0 ≤ key) (b : key < getD keys (g + 1) 0) where
-  below-all : (i : ℕ) → i < g + 1 → notAfter (at es i) x ≡ true
-  below-all i h =
-      let s = sorted es w (t .usable .finite) (t .usable .increasing) i g (omega arith) (omega arith) in
-      let k = t .keyed g (omega arith) (omega (arith, t .room, t .usable .few)) in
-      key-order (at es i) x (w i) (subst T (sym f) tt) ∙ le-leb (orderKey (at es i)) (orderKey x) (omega (arith, s, k, a, p))
+pub looked-irregular : (edges : BuiltEdges) (x : Float) → edges ≡ Irregular → x ≡ looked edges x
+looked-irregular edges x h = rw h
 
-  above-all : (i : ℕ) → g + 1 ≤ i → i < length es → notAfter (at es i) x ≡ false
-  above-all i h m =
-      let s = sorted es w (t .usable .finite) (t .usable .increasing) (g + 1) i h m in
-      let k = t .keyed (g + 1) (omega arith) (omega (arith, t .room, t .usable .few)) in
-      key-order (at es i) x (w i) (subst T (sym f) tt) ∙ lt-leb (orderKey (at es i)) (orderKey x) (omega (arith, s, k, b, p))
-
-  found-edge : some g ≡ lastEdge es x (length es)
-  found-edge =
-      let e : g ≡ g + 1 - 1 = omega arith in
-      ap some e ∙ halves-at es x (g + 1) (g + 1) (le-refl (g + 1)) (le-refl (g + 1)) (omega arith) above-all below-all (λ z. absurd (omega (arith, z)))
-
-  pub bin-found : (r : Bool) → r ≡ isNan x → r ≡ false → lt x (table .first) ≡ false → le (table .last) x ≡ false → some g ≡ builtBin Irregular es x
-  unfolding builtBin irregularIndex
-  bin-found r q h low high =
-      let lo : lt x (at es 0) ≡ false = ap (lt x) (sym (t .ends .0)) ∙ low in
-      let hi : le (at es (length es - 1)) x ≡ false = ap (λ (y : Float). le y x) (sym (t .ends .1)) ∙ high in
-      rw (← q, h, lo, hi, ← found-edge, lt-ltb g (length es - 1) l)
-
-pub tabled-irregular : (edges : BuiltEdges) (es : List Float) (table : Table) (keys : List ℕ) → edges ≡ Irregular → Tabled edges es table keys → Tabled Irregular es table keys
-tabled-irregular edges es table keys h t = subst (λ (e : BuiltEdges). Tabled e es table keys) h t
-
-pub bin-irregular : (edges : BuiltEdges) (es : List Float) (x : Float) (o : Option ℕ) → edges ≡ Irregular → o ≡ builtBin Irregular es x → o ≡ builtBin edges es x
-bin-irregular edges es x o h e = e ∙ ap (λ (b : BuiltEdges). builtBin b es x) (sym h)
+-- a store at e leaves what is above it
+pub above-stored : (d : List Float) (e : ℕ) (v : Float) (z : List Float) → ((x : ℕ) → e ≤ x → getD d x nan ≡ getD z x nan) → (x : ℕ) → e + 1 ≤ x → getD (set d e v) x nan ≡ getD z x nan
+above-stored d e v z h x l = getD-set-other d e x v nan (λ (y : x ≡ e). absurd (omega (arith, y))) ∙ h x (omega arith)
 
 -- ---- the list of places
 pub one-more : (l : List ℕ) (c e w : ℕ) (k : List ℕ) → w ≤ 1 → c < length l → take c l ≡ k → take (c + w) (set l c e) ≡ also w k e
@@ -180,9 +143,10 @@ listed-next f l q z s r h p e =
     e ∙ ap (f (getD l q 0)) p ∙ sym (over-append f (take q l) (getD l q 0) z) ∙ ap (λ (x : List ℕ). overList f x z) (sym (take-suc l q 0 h) ∙ ap (λ (n : ℕ). take n l) (sym (add-one q)))
 
 module _ (setup : Setup) (list valueEdges : List Float) (a : points.Point) (g : ℕ → points.Point) where
-  pub batch-is : (j e : ℕ) (b : points.Point) (s q : List Float) → b ≡ g (j + e) → q ≡ pairStep setup list valueEdges (a, b) s → q ≡ batchStep setup list valueEdges a g j e s
-  unfolding batchStep
-  batch-is j e b s q h k = k ∙ ap (λ (x : points.Point). pairStep setup list valueEdges (a, x) s) h
+  pub listed-is : (j e : ℕ) (d : List Float) (b : points.Point) (s q : List Float) → b ≡ g (j + e) → q ≡ pairAdded setup valueEdges (lookedPair setup list a b (getD d e nan)) s
+      → q ≡ listedStep setup list valueEdges a g j d e s
+  unfolding listedStep
+  listed-is j e d b s q h k = k ∙ ap (λ (x : points.Point). pairAdded setup valueEdges (lookedPair setup list a x (getD d e nan)) s) h
 
   -- a pair without a bin changes nothing
   skipped : (b : points.Point) (s : List Float) → none ≡ builtBin (setup .edges) list (squaredDiffNorm a b) → s ≡ pairStep setup list valueEdges (a, b) s
@@ -210,29 +174,37 @@ module _ (setup : Setup) (list valueEdges : List Float) (a : points.Point) (g : 
       let e : suc m ≡ m + 1 = omega arith in
       ap (λ (x : ℕ). rowAdded setup list valueEdges a g j x s) e ∙ row-join j m 1 s ∙ row-cons (j + m) 0 _ ∙ sym (row-none (suc (j + m)) _)
 
-  module _ (first last : Float) (ends : EndsOf (setup .edges) list first last) (d : List Float) (j : ℕ) where
+  module _ (first last : Float) (ends : EndsOf (setup .edges) list first last) (d y : List Float) (j : ℕ) where
+    -- a listed place is its pair
+    listed-pair : (m : ℕ) (x : Float) (s : List Float) → x ≡ squaredDiffNorm a (g (j + m)) → getD y m nan ≡ looked (setup .edges) x → lt x first ≡ false → le last x ≡ false
+        → listedStep setup list valueEdges a g j y m s ≡ pairStep setup list valueEdges (a, g (j + m)) s
+    unfolding listedStep lookedPair pairStep builtPair
+    listed-pair m x s e l p q =
+        let o = ap (lookedBin (setup .edges) list) l ∙ looked-bin (setup .edges) list first last x ends p q ∙ ap (builtBin (setup .edges) list) e in
+        λ i. pairAdded setup valueEdges (pairIn (o i) (datumOf (opOf (setup .op)) (a .rd) (g (j + m) .rd))) s
+
     -- one place more, listed or skipped
-    also-step : (m : ℕ) (x : Float) (l : List ℕ) (s : List Float) → x ≡ squaredDiffNorm a (g (j + m))
-        → overList (batchStep setup list valueEdges a g j) (also (inside first last x) l m) s ≡ pairStep setup list valueEdges (a, g (j + m)) (overList (batchStep setup list valueEdges a g j) l s)
-    also-step m x l s e = go (lt x first) (le last x) refl refl
+    also-step : (m : ℕ) (x : Float) (l : List ℕ) (s : List Float) → x ≡ squaredDiffNorm a (g (j + m)) → getD y m nan ≡ looked (setup .edges) x
+        → overList (listedStep setup list valueEdges a g j y) (also (inside first last x) l m) s ≡ pairStep setup list valueEdges (a, g (j + m)) (overList (listedStep setup list valueEdges a g j y) l s)
+    also-step m x l s e k = go (lt x first) (le last x) refl refl
       where
         o : List Float
-        o = overList (batchStep setup list valueEdges a g j) l s
+        o = overList (listedStep setup list valueEdges a g j y) l s
 
         go : (b c : Bool) → lt x first ≡ b → le last x ≡ c
-            → overList (batchStep setup list valueEdges a g j) (also ((1 - bit b) * (1 - bit c)) l m) s ≡ pairStep setup list valueEdges (a, g (j + m)) o
+            → overList (listedStep setup list valueEdges a g j y) (also ((1 - bit b) * (1 - bit c)) l m) s ≡ pairStep setup list valueEdges (a, g (j + m)) o
         go true true p q = skipped (g (j + m)) o (bin-low list first last x (setup .edges) ends p ∙ ap (builtBin (setup .edges) list) e)
         go true false p q = skipped (g (j + m)) o (bin-low list first last x (setup .edges) ends p ∙ ap (builtBin (setup .edges) list) e)
         go false true p q = skipped (g (j + m)) o (bin-high list first last x (setup .edges) ends q ∙ ap (builtBin (setup .edges) list) e)
-        go false false p q = over-append (batchStep setup list valueEdges a g j) l m s ∙ sym (batch-is j m (g (j + m)) o _ refl refl)
+        go false false p q = over-append (listedStep setup list valueEdges a g j y) l m s ∙ listed-pair m x o e k p q
 
-    pub batch-row : (m : ℕ) (s : List Float) → ((e : ℕ) → e < m → getD d e nan ≡ squaredDiffNorm a (g (j + e)))
-        → overList (batchStep setup list valueEdges a g j) (keptBelow first last d m) s ≡ rowAdded setup list valueEdges a g j m s
+    pub batch-row : (m : ℕ) (s : List Float) → ((e : ℕ) → e < m → getD d e nan ≡ squaredDiffNorm a (g (j + e))) → ((e : ℕ) → e < m → getD y e nan ≡ looked (setup .edges) (getD d e nan))
+        → overList (listedStep setup list valueEdges a g j y) (keptBelow first last d m) s ≡ rowAdded setup list valueEdges a g j m s
     unfolding keptBelow overList
-    batch-row zero s h = row-none j s
-    batch-row (suc m) s h =
-        also-step m (getD d m nan) (keptBelow first last d m) s (h m (omega arith))
-        ∙ ap (pairStep setup list valueEdges (a, g (j + m))) (batch-row m s (λ e p. h e (omega arith))) ∙ sym (row-snoc j m s)
+    batch-row zero s h k = row-none j s
+    batch-row (suc m) s h k =
+        also-step m (getD d m nan) (keptBelow first last d m) s (h m (omega arith)) (k m (omega arith))
+        ∙ ap (pairStep setup list valueEdges (a, g (j + m))) (batch-row m s (λ e p. h e (omega arith)) (λ e p. k e (omega arith))) ∙ sym (row-snoc j m s)
 
   -- a batch done of a row
   pub batches-turn : (n : ℕ) (z : List Float) (j m : ℕ) (s q : List Float) → j < n → m ≤ n - j → q ≡ rowAdded setup list valueEdges a g j m s

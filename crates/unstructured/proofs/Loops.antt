@@ -1,15 +1,17 @@
 -- Pairs, and the loops over them, turn by turn.
 use mathlib.Core.Path.{_≡_, refl, sym, ap, _∙_}
+use mathlib.Core.Option.{Option}
 use mathlib.Core.Bool.{Bool, true, false, true≢false}
 use mathlib.Core.List.{List, map}
 use Prim.Native.Nat.{ℕ, zero, suc, _+_, _-_, _<_, _≤_}
 use native.Mathlib.Nat.{sub-zero}
 use native.Mathlib.Numerals.{add-one}
 use native.Mathlib.Omega.{arith}
+use lib.ListN.{length}
 use lib.Ieee.{Float}
 use Rattle.definitions.specs.Lists.{range, upto}
 use Rattle.definitions.specs.Points as points
-use Rattle.definitions.specs.Points.{UnstructuredPoints, pointAt, squaredDiffNorm}
+use Rattle.definitions.specs.Points.{UnstructuredPoints, pointAt}
 use Rattle.definitions.specs.Reducer as definitions
 use Rattle.definitions.specs.Reducer.{datumOf}
 use Rattle.laws.proofs.Places.{rowLeft, crossLeft, autoLeft, row-is, cross-is, auto-is}
@@ -18,32 +20,40 @@ use Rattle.bins.specs.declared.BinIndex.the-variants.{At, None}
 use Rattle.bins.specs.Answers.{indexOf}
 use Rattle.reducer.specs.declared.Datum.{Datum}
 use Rattle.reducer.specs.Readings.{opOf, theDatum, readingOf}
-use Rattle.reducer.specs.Consume.{builtBin, consumed}
+use Rattle.reducer.specs.Consume.{valueBin, consumedAt}
+use Rattle.reducer.proofs.Ways.{consumed-found}
 use Rattle.unstructured.specs.declared.Pair.{Pair}
 use Rattle.unstructured.specs.declared.Pair.the-variants.{Kept, Dropped}
 use Rattle.unstructured.specs.declared.Point.{Point}
 use Rattle.unstructured.specs.declared.Setup.{Setup}
-use Rattle.unstructured.specs.Pairs.{thePair, thePoint, firstPartner, builtPair, pairAdded, pairStep, rowAdded, filled}
+use Rattle.unstructured.specs.Pairs.{thePair, thePoint, firstPartner, pairAdded, pairStep, rowAdded, filled}
+use Rattle.unstructured.specs.Batches.{lookedBin, lookedPair}
 
 -- ---- one pair
-module _ (setup : Setup) (list : List Float) (a b : Point) (x : Float) (q : x ≡ squaredDiffNorm (thePoint a) (thePoint b)) (r : BinIndex) (h : indexOf r ≡ builtBin (setup .edges) list x) where
+module _ (setup : Setup) (list : List Float) (a b : Point) (x : Float) (r : BinIndex) (h : indexOf r ≡ lookedBin (setup .edges) list x) where
   pub pair-kept : (i : ℕ) (d : Datum) → r ≡ At i → theDatum d ≡ datumOf (opOf (setup .op)) (readingOf (a .rd)) (readingOf (b .rd))
-      → definitions.kept i (theDatum d) ≡ builtPair setup list (thePoint a) (thePoint b)
-  unfolding builtPair
-  pair-kept i d t e = rw (← q, ← h, t, ← e)
+      → definitions.kept i (theDatum d) ≡ lookedPair setup list (thePoint a) (thePoint b) x
+  unfolding lookedPair
+  pair-kept i d t e = rw (← h, t, ← e)
 
-  pub pair-dropped : r ≡ None → definitions.dropped ≡ builtPair setup list (thePoint a) (thePoint b)
-  unfolding builtPair
-  pair-dropped t = rw (← q, ← h, t)
+  pub pair-dropped : r ≡ None → definitions.dropped ≡ lookedPair setup list (thePoint a) (thePoint b) x
+  unfolding lookedPair
+  pair-dropped t = rw (← h, t)
 
-pub pair-added : (setup : Setup) (list valueEdges : List Float) (a b : Point) (pair : Pair) (s q : List Float) → thePair pair ≡ builtPair setup list (thePoint a) (thePoint b)
-    → q ≡ pairAdded setup valueEdges (thePair pair) s → q ≡ pairStep setup list valueEdges (thePoint a, thePoint b) s
-unfolding pairStep
-pair-added setup list valueEdges a b pair s q e h = h ∙ ap (λ (x : definitions.Pair). pairAdded setup valueEdges x s) e
+pub pair-added : (setup : Setup) (list valueEdges : List Float) (a b : Point) (x : Float) (pair : Pair) (s q : List Float) → thePair pair ≡ lookedPair setup list (thePoint a) (thePoint b) x
+    → q ≡ pairAdded setup valueEdges (thePair pair) s → q ≡ pairAdded setup valueEdges (lookedPair setup list (thePoint a) (thePoint b) x) s
+pair-added setup list valueEdges a b x pair s q e h = h ∙ ap (λ (y : definitions.Pair). pairAdded setup valueEdges y s) e
 
-pub add-kept : (setup : Setup) (valueEdges : List Float) (pair : Pair) (i : ℕ) (c0 c1 c2 w : Float) (s q : List Float) → pair ≡ Kept i c0 c1 c2 w
-    → q ≡ consumed (setup .reducer) valueEdges (setup .«n_states») i (record { c0 = c0; c1 = c1; c2 = c2; weight = w }) s → q ≡ pairAdded setup valueEdges (thePair pair) s
-add-kept setup valueEdges pair i c0 c1 c2 w s q m h = h ∙ (rw m)
+-- f is the answer of `value_bin`
+pub add-kept : (setup : Setup) (valueEdges : List Float) (pair : Pair) (i : ℕ) (c0 c1 c2 w : Float) (f : BinIndex) (s q : List Float) → pair ≡ Kept i c0 c1 c2 w
+    → indexOf f ≡ valueBin (setup .reducer) valueEdges (record { c0 = c0; c1 = c1; c2 = c2; weight = w })
+    → q ≡ consumedAt (setup .reducer) (length valueEdges) (indexOf f) (setup .«n_states») i (record { c0 = c0; c1 = c1; c2 = c2; weight = w }) s → q ≡ pairAdded setup valueEdges (thePair pair) s
+add-kept setup valueEdges pair i c0 c1 c2 w f s q m e h =
+    h ∙ ap (λ (o : Option ℕ). consumedAt (setup .reducer) (length valueEdges) o (setup .«n_states») i (record { c0 = c0; c1 = c1; c2 = c2; weight = w }) s) e
+    ∙ sym (consumed-found (setup .reducer) valueEdges (setup .«n_states») i (record { c0 = c0; c1 = c1; c2 = c2; weight = w }) s) ∙ (rw m)
+
+pub add-dropped : (setup : Setup) (valueEdges : List Float) (pair : Pair) (s : List Float) → pair ≡ Dropped → s ≡ pairAdded setup valueEdges (thePair pair) s
+add-dropped setup valueEdges pair s m = rw m
 
 -- ---- one row
 pub partner-auto : (auto : Bool) (i : ℕ) → auto ≡ true → i + 1 ≡ firstPartner auto i
@@ -51,13 +61,6 @@ partner-auto auto i t = rw t
 
 module _ (setup : Setup) (list valueEdges : List Float) where
   module _ (a : points.Point) (g : ℕ → points.Point) (n : ℕ) (z : List Float) where
-    pub row-turn : (j : ℕ) (b : points.Point) (s q : List Float) → j < n → b ≡ g j → q ≡ pairStep setup list valueEdges (a, b) s
-        → rowAdded setup list valueEdges a g j (n - j) s ≡ z → rowAdded setup list valueEdges a g (j + 1) (n - (j + 1)) q ≡ z
-    unfolding rowAdded
-    row-turn j b s q h e k inv =
-        let m : n - j ≡ suc (n - (j + 1)) = omega arith in
-        (rw (add-one j, k, e)) ∙ (rw (m, add-one j) at inv)
-
     pub row-done : (j : ℕ) (s : List Float) → n ≤ j → rowAdded setup list valueEdges a g j (n - j) s ≡ z → s ≡ z
     unfolding rowAdded
     row-done j s h inv =

@@ -1,12 +1,14 @@
 -- A run's loops leave in scratch, place by place, what the definitions say; so the caller's pack is merged.
-use mathlib.Core.Path.{_≡_, refl, sym, ap, _∙_}
+use mathlib.Core.Path.{_≡_, refl, sym, ap, subst, _∙_}
 use mathlib.Core.Option.{Option, none, some}
 use mathlib.Core.Bool.{Bool, true, false}
 use mathlib.Core.List.{List, [], _∷_}
 use Prim.Native.Nat.{ℕ, _+_, _*_, _<_, _≤_}
 use native.Mathlib.Omega.{arith}
 use lib.ListN.{length, take, replicate, length-replicate}
-use lib.Ieee.{Float}
+use lib.Seq.{take-take}
+use lib.Dec.{T}
+use lib.Ieee.{Float, binary64, fits}
 use mir.Syntax.{w64}
 use mir.Val.{Fits}
 use Rattle.definitions.specs.Lists.{at, addOpt, foldAt}
@@ -29,16 +31,19 @@ use Rattle.reducer.specs.declared.Reducer.{Reducer}
 use Rattle.reducer.specs.Readings.{opOf, edgesOf, kindOf}
 use Rattle.reducer.specs.Consume.{madeEdges, made, builtBin, consumed}
 use Rattle.reducer.proofs.Placewise.{bin-bounded, room, made-bin, consumed-length, consumed-at}
+use Rattle.edge_table.specs.Tabled.{Usable, UsableValues}
+use Rattle.edge_table.proofs.Lookup.{usable-made, usable-values-made}
 use Rattle.parallel_serial.specs.declared.Shape.{Shape}
 use Rattle.parallel_serial.specs.Drive as drive
 use Rattle.parallel_serial.specs.Drive.{zeroPack, addedScratch, builtEdges, builtReducer, runNumber, runOf}
 use Rattle.parallel_serial.proofs.Refusals.{run-number, Drivable, Accepted, accepted}
 use Rattle.parallel_serial.proofs.Built.{built-made, reducer-made}
-use Rattle.parallel_serial.proofs.Scratch.{lent-length, lent-zeros, zero-at, added-merged, step-refused, step-done, run-refused, run-done}
+use Rattle.parallel_serial.proofs.Scratch.{lent-zeros, zero-at, added-merged, step-refused, step-done, run-refused, run-done}
 use Rattle.unstructured.specs.declared.PointSet.{PointSet}
 use Rattle.unstructured.specs.declared.Setup.{Setup}
 use Rattle.unstructured.specs.Readings.{strideOf, pointsOf, setsRun}
 use Rattle.unstructured.specs.Pairs.{Readable, Held, pointIn, pointsIn, pairsFor, setsFor, builtPair, pairAdded, pairStep, filled, setsNumber}
+use Rattle.unstructured.specs.Batches.{UsableRun}
 use Rattle.unstructured.proofs.Rules.{held-sets}
 
 -- ---- the points that the loops read
@@ -111,13 +116,6 @@ module _ (e : definitions.Edges) (k : kinds.Kind) (shape : Shape) (len : ℕ) (d
   pub used-fits : Fits w64 (shape .«n_states» * shape .«state_size»)
   used-fits = record { fits = omega (arith, used-limit) }
 
-  pub used-lent : (z : List Float) → z ≡ zeroPack → shape .«n_states» * shape .«state_size» ≡ length (take (shape .«n_states» * shape .«state_size») z)
-  used-lent z h = lent-length z (shape .«n_states» * shape .«state_size») used-limit h
-
-  pub used-part : (z : List Float) → z ≡ zeroPack → shape .«n_states» * shape .«state_size» ≤ length z
-  unfolding drive.zeroPack
-  used-part z h = omega (arith, used-limit, ap length h, length-replicate 4096 (zeroF false))
-
 module _ (pa va wa : List Float) (a : PointSet) (sa : ℕ) (qa : sa ≡ strideOr (a .«n_points») (strideOf (a .stride))) where
   pub readable : Held (pointsOf a pa va wa) → Readable pa va wa (a .«n_points») sa
   readable h = rw qa h
@@ -128,19 +126,19 @@ module _ (pa va wa : List Float) (a : PointSet) (sa : ℕ) (qa : sa ≡ strideOr
         let at-once = ap (λ (s : UnstructuredPoints). pointIn (s .positions) (s .values) (s .weights) (points.stride s)) (same t) in
         (ap (pointIn pa va wa) qa ∙ at-once ∙ sym (ap (pointIn pb vb wb) qb), ap (λ (s : UnstructuredPoints). s .count) (same t))
 
-    pub driven : (edges : Edges) (list : List Float) (kind : Kind) (valueEdges : List Float) (op : PairOperation) (shape : Shape) (s z q : List Float) (be : BuiltEdges) (rd : Reducer)
-        → Drivable (edgesOf edges list) (kindOf kind valueEdges) shape (length s) → be ≡ builtEdges edges → rd ≡ builtReducer kind → z ≡ zeroPack
+    pub driven : (edges : Edges) (list : List Float) (kind : Kind) (valueEdges : List Float) (op : PairOperation) (shape : Shape) (s q : List Float) (be : BuiltEdges) (rd : Reducer)
+        → Drivable (edgesOf edges list) (kindOf kind valueEdges) shape (length s) → be ≡ builtEdges edges → rd ≡ builtReducer kind
         → q
         ≡ addedScratch s
         (filled (record { op = op; edges = be; reducer = rd; «n_states» = shape .«n_states» }) list valueEdges auto (pointsIn pa va wa sa (a .«n_points»)) (pointsIn pb vb wb sb (b .«n_points»))
-        (take (shape .«n_states» * shape .«state_size») z))
+        (take (shape .«n_states» * shape .«state_size») zeroPack))
         → q ≡ merged (setsRun (setsFor auto (pointsOf a pa va wa) (pointsOf b pb vb wb)) edges list kind valueEdges op shape) s
     unfolding setsRun
-    driven edges list kind valueEdges op shape s z q be rd d eb er ez h =
+    driven edges list kind valueEdges op shape s q be rd d eb er h =
         let x = eb ∙ built-made edges list (d .edges) in
         let y = er ∙ reducer-made kind valueEdges (d .values) in
         let n = bins (edgesOf edges list) * kindSize (kindOf kind valueEdges) in
-        let u = (λ i. take (d .states i * d .size i) z) ∙ lent-zeros z n (d .limit) ez in
+        let u = (λ i. take (d .states i * d .size i) zeroPack) ∙ lent-zeros zeroPack n (d .limit) refl in
         let sets = setsFor auto (pointsOf a pa va wa) (pointsOf b pb vb wb) in
         h
         ∙ (λ i. addedScratch s
@@ -150,6 +148,26 @@ module _ (pa va wa : List Float) (a : PointSet) (sa : ℕ) (qa : sa ≡ strideOr
         (λ p l.
         filled-at list valueEdges edges kind op shape sets (d .few) (d .small) auto _ _ p l
         ∙ sym (scratch-is (theRun list valueEdges edges kind op shape sets) auto (pointsOf a pa va wa) (pointsOf b pb vb wb) p refl))
+
+-- accepted edges and value edges can be looked up by tables
+pub usable-run : (edges : Edges) (list : List Float) (kind : Kind) (valueEdges : List Float) (shape : Shape) (len : ℕ) → Drivable (edgesOf edges list) (kindOf kind valueEdges) shape len
+    → ((i : ℕ) → T (fits binary64 (at list i))) → ((i : ℕ) → T (fits binary64 (at valueEdges i))) → (setup : Setup) → setup .edges ≡ builtEdges edges → setup .reducer ≡ builtReducer kind → UsableRun setup list valueEdges
+usable-run edges list kind valueEdges shape len d f g setup eb er =
+    record {
+      edges = subst (λ (e : BuiltEdges). Usable e list) (sym (eb ∙ built-made edges list (d .edges))) (usable-made list f edges (d .edges));
+      values = subst (λ (r : Reducer). UsableValues r valueEdges) (sym (er ∙ reducer-made kind valueEdges (d .values))) (usable-values-made valueEdges g kind (d .values));
+    }
+
+-- a small scratch holds the same zeros as a large one
+pub part-taken : (n m : ℕ) (z : List Float) → n ≤ m → z ≡ take m zeroPack → take n z ≡ take n zeroPack
+part-taken n m z h e = ap (take n) e ∙ take-take n m zeroPack h
+
+pub all-taken : (n : ℕ) (z : List Float) → z ≡ zeroPack → take n z ≡ take n zeroPack
+all-taken n z e = ap (take n) e
+
+pub from-zeros : (setup : Setup) (list valueEdges : List Float) (auto : Bool) (l m : List points.Point) (s q t u : List Float) → t ≡ u
+    → q ≡ addedScratch s (filled setup list valueEdges auto l m t) → q ≡ addedScratch s (filled setup list valueEdges auto l m u)
+from-zeros setup list valueEdges auto l m s q t u e h = h ∙ ap (λ (z : List Float). addedScratch s (filled setup list valueEdges auto l m z)) e
 
 -- scratch after the loops, then added
 pub added-filled : (s t u q : List Float) → t ≡ u → q ≡ addedScratch s t → q ≡ addedScratch s u

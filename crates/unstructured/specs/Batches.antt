@@ -1,45 +1,51 @@
--- What the rows in batches promise and ask: edges looked up by keys, the places of a batch that are not outside the ends.
+-- What the rows in batches promise and ask: lookups by tables, the places of a batch that are not outside the ends.
 use mathlib.Core.Path.{_≡_}
+use mathlib.Core.Option.{Option, some}
 use mathlib.Core.List.{List, [], _∷_, _++_}
 use mathlib.Core.Bool.{Bool, true, false}
-use Prim.Native.Nat.{ℕ, zero, suc, _+_, _-_, _*_, _≤_, _<_}
-use lib.Dec.{T}
-use lib.ListN.{length, getD}
-use lib.Ieee.{Float, nan, lt, le}
-use Rattle.definitions.specs.Lists.{at}
-use Rattle.definitions.specs.Rules.{allFinite, increasing}
+use Prim.Native.Nat.{ℕ, zero, suc, _+_, _-_, _*_}
+use lib.ListN.{getD}
+use lib.Ieee.{Float, binary64, nan, lt, le, sub, div}
+use Rattle.definitions.specs.Floats.{asUsize}
+use Rattle.definitions.specs.Bins.{below}
 use Rattle.definitions.specs.Points as Points
-use Rattle.floats.specs.Order.{orderKey}
+use Rattle.definitions.specs.Reducer as Reducer
+use Rattle.definitions.specs.Reducer.{pairIn, datumOf}
+use Rattle.bins.specs.declared.RegularBinEdges.{RegularBinEdges}
 use Rattle.reducer.specs.declared.BuiltEdges.{BuiltEdges}
 use Rattle.reducer.specs.declared.BuiltEdges.the-variants.{Regular, Irregular}
+use Rattle.reducer.specs.Readings.{opOf}
+use Rattle.reducer.specs.Consume.{builtBin}
+use Rattle.edge_table.specs.Tabled.{Usable, UsableValues, Tabled, TabledValues}
 use Rattle.unstructured.specs.declared.Setup.{Setup}
-use Rattle.unstructured.specs.declared.Table.{Table}
-use Rattle.unstructured.specs.Pairs.{pairStep}
+use Rattle.unstructured.specs.declared.Tables.{Tables}
+use Rattle.unstructured.specs.Pairs.{pairAdded}
 
-pub record Searchable (es : List Float) : Type 0 where
-  pub two : 2 ≤ length es
-  pub few : length es ≤ 257
-  pub finite : T (allFinite es)
-  pub increasing : T (increasing es)
+-- the run's edges and value edges can be looked up by tables
+pub record UsableRun (setup : Setup) (list valueEdges : List Float) : Type 0 where
+  pub edges : Usable (setup .edges) list
+  pub values : UsableValues (setup .reducer) valueEdges
 
--- edges that can be looked up by keys; regular ones need none
-abbrev pub Usable : BuiltEdges → List Float → Type 0
-Usable (Regular e) es = Unit {0}
-Usable Irregular es = Searchable es
+-- these are their tables
+pub record TabledRun (setup : Setup) (list valueEdges : List Float) (tables : Tables) (keys valueKeys : List ℕ) : Type 0 where
+  pub edges : Tabled (setup .edges) list (tables .edges) keys
+  pub values : TabledValues (setup .reducer) valueEdges (tables .values) valueKeys
 
--- a value below the first or not below the last has no bin
-abbrev pub EndsOf : BuiltEdges → List Float → Float → Float → Type 0
-EndsOf (Regular e) es first last = (first ≡ e .min) × (last ≡ e .max)
-EndsOf Irregular es first last = (first ≡ at es 0) × (last ≡ at es (length es - 1))
+-- ---- a distance that is not outside the ends, looked up
+abbrev pub quotient : RegularBinEdges → Float → Float
+quotient e x = div binary64 (sub binary64 x (e .min)) (e .«bin_size»)
 
-abbrev pub Keys : List ℕ → List Float → Type 0
-Keys keys es = (i : ℕ) → i < length es → i < length keys → getD keys i 0 ≡ orderKey (at es i)
+-- what the lookup wants of a distance
+abbrev pub looked : BuiltEdges → Float → Float
+looked (Regular e) x = quotient e x
+looked Irregular x = x
 
-pub record Tabled (edges : BuiltEdges) (es : List Float) (table : Table) (keys : List ℕ) : Type 0 where
-  pub usable : Usable edges es
-  pub ends : EndsOf edges es (table .first) (table .last)
-  pub keyed : Keys keys es
-  pub room : 257 ≤ length keys
+unfoldable pub lookedBin : BuiltEdges → List Float → Float → Option ℕ
+lookedBin (Regular e) list x = below (e .«n_bins») (some (asUsize x))
+lookedBin Irregular list x = builtBin Irregular list x
+
+unfoldable pub lookedPair : Setup → List Float → Points.Point → Points.Point → Float → Reducer.Pair
+lookedPair setup list a b x = pairIn (lookedBin (setup .edges) list x) (datumOf (opOf (setup .op)) (a .rd) (b .rd))
 
 -- ---- the places of a batch
 abbrev pub bit : Bool → ℕ
@@ -64,6 +70,6 @@ unfoldable pub overList : (ℕ → List Float → List Float) → List ℕ → L
 overList f [] s = s
 overList f (e ∷ l) s = overList f l (f e s)
 
--- the pair of a with place e of a batch whose first point is j
-unfoldable pub batchStep : Setup → List Float → List Float → Points.Point → (ℕ → Points.Point) → ℕ → ℕ → List Float → List Float
-batchStep setup list valueEdges a g j e s = pairStep setup list valueEdges (a, g (j + e)) s
+-- the pair of a with place e of a batch whose first point is j; d holds what the lookup wants
+unfoldable pub listedStep : Setup → List Float → List Float → Points.Point → (ℕ → Points.Point) → ℕ → List Float → ℕ → List Float → List Float
+listedStep setup list valueEdges a g j d e s = pairAdded setup valueEdges (lookedPair setup list a (g (j + e)) (getD d e nan)) s

@@ -1,6 +1,7 @@
 // Two-point runs over unstructured points.
 use bins::BinIndex;
-use bins::Validated;
+use bins::RegularBinEdges;
+use edge_table::Table;
 use parallel_serial::Shape;
 use reducer::BuiltEdges;
 use reducer::Datum;
@@ -12,24 +13,25 @@ use state::Outcome;
 ghost use mathlib.Core.Path.{_≡_};
 ghost use mathlib.Core.Bool.{true};
 ghost use mathlib.Core.List.{[]};
-ghost use Prim.Native.Nat.{_-_, _<_};
-ghost use lib.ListN.{length};
+ghost use mathlib.Core.Option.{some};
+ghost use Prim.Native.Nat.{ℕ, _+_, _-_, _<_, _≤_};
+ghost use lib.ListN.{length, getD, take};
+ghost use lib.Ieee.{nan};
+ghost use Rattle.definitions.specs.Bins.{below};
 ghost use Rattle.definitions.specs.Points.{points, pointAt, strideOr, squaredDiffNorm};
 ghost use Rattle.definitions.specs.Run.{merged};
 ghost use Rattle.definitions.specs.Rules.{refusal, met, overPoints, pointRules, overSets, setRules, runRules, step};
 ghost use Rattle.state.specs.Readings.{numberOf};
-ghost use Rattle.reducer.specs.Readings.{edgesOf, kindOf};
+ghost use Rattle.bins.specs.Answers.{indexOf};
 ghost use Rattle.reducer.specs.declared.BuiltEdges.the-variants.{Irregular};
-ghost use Rattle.parallel_serial.specs.Drive.{addedScratch};
+ghost use Rattle.reducer.specs.Readings.{edgesOf, kindOf, theDatum};
+ghost use Rattle.reducer.specs.Consume.{builtBin, valueBin};
+ghost use Rattle.edge_table.specs.Tabled.{Tabled, TabledValues};
+ghost use Rattle.parallel_serial.specs.Drive.{zeroPack, addedScratch};
 ghost use Rattle.parallel_serial.proofs.Refusals.{Drivable};
 ghost use Rattle.unstructured.specs.Readings.{strideOf, pointsOf, setsRun, autoRun, crossRun};
-ghost use Prim.Native.Nat.{ℕ, _+_, _≤_};
-ghost use lib.ListN.{getD, take};
-ghost use lib.Ieee.{nan};
-ghost use Rattle.reducer.specs.Consume.{builtBin};
-ghost use Rattle.bins.specs.Answers.{indexOf};
-ghost use Rattle.unstructured.specs.Batches.{Usable, EndsOf, Keys, Tabled, overList, keptBelow, inside, batchStep};
-ghost use Rattle.unstructured.specs.Pairs.{thePair, thePoint, pointIn, pointsIn, Holds, Readable, Held, firstPartner, setsFor, builtPair, pairAdded, pairStep, rowAdded, filled, setsNumber};
+ghost use Rattle.unstructured.specs.Pairs.{thePair, thePoint, pointIn, pointsIn, Holds, Readable, Held, firstPartner, setsFor, pairAdded, rowAdded, filled, setsNumber};
+ghost use Rattle.unstructured.specs.Batches.{UsableRun, TabledRun, quotient, looked, lookedBin, lookedPair, listedStep, overList, keptBelow, inside};
 
 // The stride of positions and values; left out it is the number of points.
 pub enum Stride {
@@ -61,6 +63,12 @@ struct Setup {
     edges: BuiltEdges,
     reducer: Reducer,
     n_states: usize,
+}
+
+// Ends of the distance edges and of the value edges, and where their hints are.
+struct Tables {
+    edges: Table,
+    values: Table,
 }
 
 // ---- refusals
@@ -176,12 +184,63 @@ fn squared_diff_norm(a: Point, b: Point) -> f64
     d0 * d0 + (d1 * d1 + d2 * d2)
 }
 
-fn pair_of(setup: Setup, list: &[f64], a: Point, b: Point) -> Pair
-    ensures { λ r. ⌜ thePair r ≡ builtPair setup (now (list .entry)) (thePoint a) (thePoint b) ⌝ }
+// One of n bins.
+fn one_of(n: usize, i: usize) -> BinIndex
+    ensures { λ r. ⌜ indexOf r ≡ below n (some i) ⌝ }
+{
+    if i < n {
+        return BinIndex::At(i);
+    }
+    BinIndex::None
+}
+
+// The bin in irregular edges: the hint's, mostly.
+fn irregular_bin(list: &[f64], keys: &[u64], hints: &[u8], table: Table, x: f64) -> BinIndex
+    requires { ⌜ Tabled Irregular (now list) table (now keys) ⌝ }
+    ensures { λ r. ⌜ indexOf r ≡ builtBin Irregular (now (list .entry)) x ⌝ }
+{
+    if hints.len() == 0 {
+        return edge_table::searched_bin(list, keys, table, x);
+    }
+    match edge_table::guessed_bin(list.len(), keys, hints, table, x) {
+        BinIndex::At(bin) => BinIndex::At(bin),
+        BinIndex::None => edge_table::searched_bin(list, keys, table, x),
+    }
+}
+
+// The bin of a distance that is not outside the edges; in regular edges x is its quotient.
+fn look_up(
+    edges: BuiltEdges,
+    list: &[f64],
+    keys: &[u64],
+    hints: &[u8],
+    table: Table,
+    x: f64,
+) -> BinIndex
+    requires { ⌜ Tabled edges (now list) table (now keys) ⌝ }
+    ensures { λ r. ⌜ indexOf r ≡ lookedBin edges (now (list .entry)) x ⌝ }
+{
+    match edges {
+        BuiltEdges::Regular(e) => one_of(e.n_bins, floats::as_usize(x)),
+        BuiltEdges::Irregular => irregular_bin(list, keys, hints, table, x),
+    }
+}
+
+fn pair_of(
+    setup: Setup,
+    list: &[f64],
+    keys: &[u64],
+    hints: &[u8],
+    table: Table,
+    a: Point,
+    b: Point,
+    x: f64,
+) -> Pair
+    requires { ⌜ Tabled (setup .edges) (now list) table (now keys) ⌝ }
+    ensures { λ r. ⌜ thePair r ≡ lookedPair setup (now (list .entry)) (thePoint a) (thePoint b) x ⌝ }
 {
     let edges = setup.edges;
-    let distance = squared_diff_norm(a, b);
-    match reducer::bin_of(edges, list, distance) {
+    match look_up(edges, list, keys, hints, table, x) {
         BinIndex::At(bin) => {
             let op = setup.op;
             let first = a.rd;
@@ -193,14 +252,71 @@ fn pair_of(setup: Setup, list: &[f64], a: Point, b: Point) -> Pair
     }
 }
 
-fn add_pair(setup: Setup, value_edges: &[f64], pair: Pair, scratch: &mut [f64])
+fn bin_in(
+    edges: BuiltEdges,
+    list: &[f64],
+    keys: &[u64],
+    hints: &[u8],
+    table: Table,
+    x: f64,
+) -> BinIndex
+    requires { ⌜ Tabled edges (now list) table (now keys) ⌝ }
+    ensures { λ r. ⌜ indexOf r ≡ builtBin edges (now (list .entry)) x ⌝ }
+{
+    match edges {
+        BuiltEdges::Regular(_) => reducer::bin_of(edges, list, x),
+        BuiltEdges::Irregular => irregular_bin(list, keys, hints, table, x),
+    }
+}
+
+// The bin of a datum's value, which a histogram has.
+fn value_bin(
+    kind: Reducer,
+    value_edges: &[f64],
+    keys: &[u64],
+    hints: &[u8],
+    table: Table,
+    datum: Datum,
+) -> BinIndex
+    requires { ⌜ TabledValues kind (now «value_edges») table (now keys) ⌝ }
+    ensures { λ r. ⌜ indexOf r ≡ valueBin kind (now («value_edges» .entry)) (theDatum datum) ⌝ }
+{
+    match kind {
+        Reducer::Comp0Mean => BinIndex::None,
+        Reducer::ComponentSumMean => BinIndex::None,
+        Reducer::ComponentSumHistogram(edges) => {
+            let value = reducer::component_sum(datum);
+            bin_in(edges, value_edges, keys, hints, table, value)
+        }
+    }
+}
+
+fn add_pair(
+    setup: Setup,
+    value_edges: &[f64],
+    keys: &[u64],
+    hints: &[u8],
+    table: Table,
+    pair: Pair,
+    scratch: &mut [f64],
+)
+    requires { ⌜ TabledValues (setup .reducer) (now «value_edges») table (now keys) ⌝ }
     ensures { λ _. ⌜ now (scratch .exit) ≡ pairAdded setup (now («value_edges» .entry)) (thePair pair) (now (scratch .entry)) ⌝ }
 {
     match pair {
         Pair::Kept(bin, c0, c1, c2, weight) => {
             let kind = setup.reducer;
             let datum = Datum { c0, c1, c2, weight };
-            reducer::consume(kind, value_edges, setup.n_states, bin, datum, scratch)
+            let found = value_bin(kind, value_edges, keys, hints, table, datum);
+            reducer::consume_at(
+                kind,
+                value_edges.len(),
+                found,
+                setup.n_states,
+                bin,
+                datum,
+                scratch,
+            )
         }
         Pair::Dropped => {}
     }
@@ -210,294 +326,34 @@ fn add_points(
     setup: Setup,
     list: &[f64],
     value_edges: &[f64],
+    keys: &[u64],
+    hints: &[u8],
+    value_keys: &[u64],
+    value_hints: &[u8],
+    tables: Tables,
     a: Point,
     b: Point,
+    x: f64,
     scratch: &mut [f64],
 )
-    ensures { λ _. ⌜ now (scratch .exit) ≡ pairStep setup (now (list .entry)) (now («value_edges» .entry)) (thePoint a, thePoint b) (now (scratch .entry)) ⌝ }
+    requires { ⌜ TabledRun setup (now list) (now «value_edges») tables (now keys) (now «value_keys») ⌝ }
+    ensures { λ _. ⌜ now (scratch .exit) ≡ pairAdded setup (now («value_edges» .entry)) (lookedPair setup (now (list .entry)) (thePoint a) (thePoint b) x) (now (scratch .entry)) ⌝ }
 {
-    let pair = pair_of(setup, list, a, b);
-    add_pair(setup, value_edges, pair, scratch);
-}
-
-// The pairs of point a with the n points of the second set, from point `from` on.
-fn add_row(
-    setup: Setup,
-    list: &[f64],
-    value_edges: &[f64],
-    a: Point,
-    positions: &[f64],
-    values: &[f64],
-    weights: &[f64],
-    stride: usize,
-    from: usize,
-    n: usize,
-    scratch: &mut [f64],
-)
-    requires { ⌜ Readable (now positions) (now values) (now weights) n stride ⌝ }
-    ensures { λ _. ⌜ now (scratch .exit) ≡ rowAdded setup (now (list .entry)) (now («value_edges» .entry)) (thePoint a)
-        (pointIn (now (positions .entry)) (now (values .entry)) (now (weights .entry)) stride) from (n - from) (now (scratch .entry)) ⌝ }
-{
-    let mut j = from;
-    while j < n {
-        let b = point_at(positions, values, weights, stride, j);
-        add_points(setup, list, value_edges, a, b, scratch);
-        j += 1;
-    }
+    let table = tables.edges;
+    let value_table = tables.values;
+    let pair = pair_of(setup, list, keys, hints, table, a, b, x);
+    add_pair(
+        setup,
+        value_edges,
+        value_keys,
+        value_hints,
+        value_table,
+        pair,
+        scratch,
+    );
 }
 
 // ---- rows in batches: distances first, then the places within the ends of the edges, then their pairs
-
-// Ends of the edges, and hints a unit of the distance.
-struct Table {
-    first: f64,
-    last: f64,
-    scale: f64,
-}
-
-// Whether batches pay for n second points, and edges can be looked up by keys; regular ones need none.
-fn is_usable(edges: BuiltEdges, list: &[f64], n: usize) -> bool
-    ensures { λ r. ⌜ (r ≡ true → Usable edges (now (list .entry))) ⌝ }
-{
-    match edges {
-        BuiltEdges::Regular(_) => n >= 32,
-        BuiltEdges::Irregular => {
-            if list.len() > 257 {
-                return false;
-            }
-            if list.len() < 2 {
-                return false;
-            }
-            match bins::validate_bin_edges(list) {
-                Validated::Accepted => true,
-                Validated::Refused(_) => false,
-            }
-        }
-    }
-}
-
-fn ends_of(edges: BuiltEdges, list: &[f64], span: f64) -> Table
-    requires { ⌜ Usable edges (now list) ⌝ }
-    ensures { λ r. ⌜ EndsOf edges (now (list .entry)) (r .first) (r .last) ⌝ }
-{
-    match edges {
-        BuiltEdges::Regular(e) => Table {
-            first: e.min,
-            last: e.max,
-            scale: 0.0,
-        },
-        BuiltEdges::Irregular => {
-            let first = list[0];
-            let last = list[list.len() - 1];
-            Table {
-                first,
-                last,
-                scale: span / (last - first),
-            }
-        }
-    }
-}
-
-// Key of each edge.
-fn keys_of(list: &[f64], keys: &mut [u64])
-    ensures { λ _. ⌜ Keys (now (keys .exit)) (now (list .entry)) ⌝ }
-{
-    let mut i = 0;
-    while i < keys.len() {
-        if i >= list.len() {
-            return;
-        }
-        keys[i] = floats::total_key(list[i]);
-        i += 1;
-    }
-}
-
-// The first bin from b on whose upper edge is after x.
-fn advance(list: &[f64], b: usize, x: f64) -> usize {
-    if list.len() < 2 {
-        return 0;
-    }
-    let top = list.len() - 2;
-    let mut c = b;
-    while c < top {
-        if x < list[c + 1] {
-            return c;
-        }
-        c += 1;
-    }
-    c
-}
-
-fn narrow(b: usize) -> u8 {
-    if b < 256 { b as u8 } else { 0 }
-}
-
-// Whether a table pays for n second points: the plain search goes edge by edge.
-fn table_pays(list_len: usize, n: usize) -> bool {
-    if list_len > 65 {
-        return n >= 6;
-    }
-    n >= 20
-}
-
-// How many hints pay for n second points.
-fn hint_count(list_len: usize, n: usize) -> usize {
-    if list_len < 2 {
-        return 0;
-    }
-    if n < 16 {
-        return 256;
-    }
-    if n < 160 {
-        return 512;
-    }
-    4096
-}
-
-// How many of them the range of the edges takes: two less.
-fn hint_span(n: usize) -> f64 {
-    if n < 16 {
-        return 254.0;
-    }
-    if n < 160 {
-        return 510.0;
-    }
-    4094.0
-}
-
-// A guess of the bin for each place of a table over the range of the edges. Nothing rests on it.
-fn fill_hints(list: &[f64], first: f64, step: f64, count: usize, hints: &mut [u8]) {
-    let mut x = first - 0.5 * step;
-    let mut b = 0;
-    let mut q = 0;
-    while q < hints.len() {
-        if q >= count {
-            return;
-        }
-        b = advance(list, b, x);
-        hints[q] = narrow(b);
-        x = x + step;
-        q += 1;
-    }
-}
-
-fn widened(x: u8) -> usize {
-    x as usize
-}
-
-// A guess of the value's bin: adding 2^52 rounds to a whole number, which the low bits then hold.
-fn hint(hints: &[u8], table: Table, value: f64) -> usize {
-    let x = (value - table.first) * table.scale + 4503599627370496.0;
-    let q = (floats::to_bits(x) % 4096) as usize;
-    if q < hints.len() {
-        return widened(hints[q]);
-    }
-    0
-}
-
-// One bin up where the next key is not above the value's.
-fn nudge(keys: &[u64], h: usize, key: u64) -> usize {
-    if h < 256 {
-        if h + 1 < keys.len() {
-            return h + ((keys[h + 1] <= key) as usize);
-        }
-    }
-    h
-}
-
-// The bin in irregular edges, by keys: the guess h where it is right.
-fn keyed_bin(list: &[f64], keys: &[u64], table: Table, h: usize, value: f64) -> BinIndex
-    requires { ⌜ Tabled Irregular (now list) table (now keys) ⌝ }
-    ensures { λ r. ⌜ indexOf r ≡ builtBin Irregular (now (list .entry)) value ⌝ }
-{
-    if floats::is_nan(value) {
-        return BinIndex::None;
-    }
-    if value < table.first {
-        return BinIndex::None;
-    }
-    if table.last <= value {
-        return BinIndex::None;
-    }
-    let key = floats::total_key(value);
-    let g = nudge(keys, h, key);
-    if g < list.len() - 1 {
-        if keys[g] <= key {
-            if key < keys[g + 1] {
-                return BinIndex::At(g);
-            }
-        }
-    }
-    reducer::bin_of(BuiltEdges::Irregular, list, value)
-}
-
-fn table_bin(
-    edges: BuiltEdges,
-    list: &[f64],
-    keys: &[u64],
-    hints: &[u8],
-    table: Table,
-    value: f64,
-) -> BinIndex
-    requires { ⌜ Tabled edges (now list) table (now keys) ⌝ }
-    ensures { λ r. ⌜ indexOf r ≡ builtBin edges (now (list .entry)) value ⌝ }
-{
-    match edges {
-        BuiltEdges::Regular(_) => reducer::bin_of(edges, list, value),
-        BuiltEdges::Irregular => {
-            let h = hint(hints, table, value);
-            keyed_bin(list, keys, table, h, value)
-        }
-    }
-}
-
-// The pair of a and b, whose squared distance is known.
-fn table_pair(
-    setup: Setup,
-    list: &[f64],
-    keys: &[u64],
-    hints: &[u8],
-    table: Table,
-    a: Point,
-    b: Point,
-    distance: f64,
-) -> Pair
-    requires { ⌜ Tabled (setup .edges) (now list) table (now keys) ⌝ }
-    requires { ⌜ distance ≡ squaredDiffNorm (thePoint a) (thePoint b) ⌝ }
-    ensures { λ r. ⌜ thePair r ≡ builtPair setup (now (list .entry)) (thePoint a) (thePoint b) ⌝ }
-{
-    let edges = setup.edges;
-    match table_bin(edges, list, keys, hints, table, distance) {
-        BinIndex::At(bin) => {
-            let op = setup.op;
-            let first = a.rd;
-            let second = b.rd;
-            let datum = reducer::datum_of(op, first, second);
-            Pair::Kept(bin, datum.c0, datum.c1, datum.c2, datum.weight)
-        }
-        BinIndex::None => Pair::Dropped,
-    }
-}
-
-fn add_table_pair(
-    setup: Setup,
-    list: &[f64],
-    value_edges: &[f64],
-    keys: &[u64],
-    hints: &[u8],
-    table: Table,
-    a: Point,
-    b: Point,
-    distance: f64,
-    scratch: &mut [f64],
-)
-    requires { ⌜ Tabled (setup .edges) (now list) table (now keys) ⌝ }
-    requires { ⌜ distance ≡ squaredDiffNorm (thePoint a) (thePoint b) ⌝ }
-    ensures { λ _. ⌜ now (scratch .exit) ≡ pairStep setup (now (list .entry)) (now («value_edges» .entry)) (thePoint a, thePoint b) (now (scratch .entry)) ⌝ }
-{
-    let pair = table_pair(setup, list, keys, hints, table, a, b, distance);
-    add_pair(setup, value_edges, pair, scratch);
-}
 
 // The squared distances from a to m points of the second set, from point j on.
 fn distances(
@@ -544,6 +400,31 @@ fn list_inside(table: Table, d: &[f64], m: usize, places: &mut [usize]) -> usize
     c
 }
 
+// The quotients that regular edges truncate, in place of m distances.
+fn quotients(edges: RegularBinEdges, m: usize, d: &mut [f64])
+    requires { ⌜ m ≤ length (now d) ⌝ }
+    ensures { λ _. ⌜ ((e : ℕ) → e < m → getD (now (d .exit)) e nan ≡ quotient edges (getD (now (d .entry)) e nan)) ⌝ }
+{
+    let min = edges.min;
+    let size = edges.bin_size;
+    let mut e = 0;
+    while e < m {
+        d[e] = (d[e] - min) / size;
+        e += 1;
+    }
+}
+
+// What the lookup wants in place of m distances.
+fn prepare(edges: BuiltEdges, m: usize, d: &mut [f64])
+    requires { ⌜ m ≤ length (now d) ⌝ }
+    ensures { λ _. ⌜ ((e : ℕ) → e < m → getD (now (d .exit)) e nan ≡ looked edges (getD (now (d .entry)) e nan)) ⌝ }
+{
+    match edges {
+        BuiltEdges::Regular(e) => quotients(e, m, d),
+        BuiltEdges::Irregular => {}
+    }
+}
+
 // The pairs of a with the listed points of a batch, whose first point is j.
 fn add_listed(
     setup: Setup,
@@ -551,7 +432,9 @@ fn add_listed(
     value_edges: &[f64],
     keys: &[u64],
     hints: &[u8],
-    table: Table,
+    value_keys: &[u64],
+    value_hints: &[u8],
+    tables: Tables,
     a: Point,
     positions: &[f64],
     values: &[f64],
@@ -564,24 +447,25 @@ fn add_listed(
     c: usize,
     scratch: &mut [f64],
 )
-    requires { ⌜ Tabled (setup .edges) (now list) table (now keys) ⌝ }
+    requires { ⌜ TabledRun setup (now list) (now «value_edges») tables (now keys) (now «value_keys») ⌝ }
     requires { ⌜ Readable (now positions) (now values) (now weights) (j + m) stride ⌝ }
     requires { ⌜ (m ≤ length (now d)) × (c ≤ length (now places)) × ((q : ℕ) → q < c → getD (now places) q 0 < m) ⌝ }
-    requires { ⌜ ((e : ℕ) → e < m → getD (now d) e nan ≡ squaredDiffNorm (thePoint a) (pointIn (now positions) (now values) (now weights) stride (j + e))) ⌝ }
-    ensures { λ _. ⌜ now (scratch .exit) ≡ overList (batchStep setup (now (list .entry)) (now («value_edges» .entry)) (thePoint a)
-        (pointIn (now (positions .entry)) (now (values .entry)) (now (weights .entry)) stride) j) (take c (now (places .entry))) (now (scratch .entry)) ⌝ }
+    ensures { λ _. ⌜ now (scratch .exit) ≡ overList (listedStep setup (now (list .entry)) (now («value_edges» .entry)) (thePoint a)
+        (pointIn (now (positions .entry)) (now (values .entry)) (now (weights .entry)) stride) j (now (d .entry))) (take c (now (places .entry))) (now (scratch .entry)) ⌝ }
 {
     let mut q = 0;
     while q < c {
         let e = places[q];
         let b = point_at(positions, values, weights, stride, j + e);
-        add_table_pair(
+        add_points(
             setup,
             list,
             value_edges,
             keys,
             hints,
-            table,
+            value_keys,
+            value_hints,
+            tables,
             a,
             b,
             d[e],
@@ -591,11 +475,11 @@ fn add_listed(
     }
 }
 
-fn batch_size(left: usize) -> usize
-    requires { ⌜ 0 < left ⌝ }
-    ensures { λ r. ⌜ (0 < r) × (r ≤ left) × (r ≤ 256) ⌝ }
+fn batch_size(left: usize, most: usize) -> usize
+    requires { ⌜ (0 < left) × (0 < most) ⌝ }
+    ensures { λ r. ⌜ (0 < r) × (r ≤ left) × (r ≤ most) ⌝ }
 {
-    if left < 256 { left } else { 256 }
+    if left < most { left } else { most }
 }
 
 // The pairs of a with m points from j on. d and places are room.
@@ -605,7 +489,9 @@ fn add_batch(
     value_edges: &[f64],
     keys: &[u64],
     hints: &[u8],
-    table: Table,
+    value_keys: &[u64],
+    value_hints: &[u8],
+    tables: Tables,
     a: Point,
     positions: &[f64],
     values: &[f64],
@@ -617,21 +503,26 @@ fn add_batch(
     places: &mut [usize],
     scratch: &mut [f64],
 )
-    requires { ⌜ Tabled (setup .edges) (now list) table (now keys) ⌝ }
+    requires { ⌜ TabledRun setup (now list) (now «value_edges») tables (now keys) (now «value_keys») ⌝ }
     requires { ⌜ Readable (now positions) (now values) (now weights) (j + m) stride ⌝ }
     requires { ⌜ (m ≤ length (now d)) × (m < length (now places)) ⌝ }
     ensures { λ _. ⌜ now (scratch .exit) ≡ rowAdded setup (now (list .entry)) (now («value_edges» .entry)) (thePoint a)
         (pointIn (now (positions .entry)) (now (values .entry)) (now (weights .entry)) stride) j m (now (scratch .entry)) ⌝ }
 {
+    let edges = setup.edges;
+    let table = tables.edges;
     distances(a, positions, values, weights, stride, j, m, &mut *d);
     let c = list_inside(table, &*d, m, &mut *places);
+    prepare(edges, m, &mut *d);
     add_listed(
         setup,
         list,
         value_edges,
         keys,
         hints,
-        table,
+        value_keys,
+        value_hints,
+        tables,
         a,
         positions,
         values,
@@ -653,7 +544,9 @@ fn add_batches(
     value_edges: &[f64],
     keys: &[u64],
     hints: &[u8],
-    table: Table,
+    value_keys: &[u64],
+    value_hints: &[u8],
+    tables: Tables,
     a: Point,
     positions: &[f64],
     values: &[f64],
@@ -665,22 +558,25 @@ fn add_batches(
     places: &mut [usize],
     scratch: &mut [f64],
 )
-    requires { ⌜ Tabled (setup .edges) (now list) table (now keys) ⌝ }
+    requires { ⌜ TabledRun setup (now list) (now «value_edges») tables (now keys) (now «value_keys») ⌝ }
     requires { ⌜ Readable (now positions) (now values) (now weights) n stride ⌝ }
-    requires { ⌜ (256 ≤ length (now d)) × (256 < length (now places)) ⌝ }
+    requires { ⌜ (0 < length (now d)) × (length (now d) < length (now places)) ⌝ }
     ensures { λ _. ⌜ now (scratch .exit) ≡ rowAdded setup (now (list .entry)) (now («value_edges» .entry)) (thePoint a)
         (pointIn (now (positions .entry)) (now (values .entry)) (now (weights .entry)) stride) from (n - from) (now (scratch .entry)) ⌝ }
 {
     let mut j = from;
     while j < n {
-        let m = batch_size(n - j);
+        let left = n - j;
+        let m = batch_size(left, d.len());
         add_batch(
             setup,
             list,
             value_edges,
             keys,
             hints,
-            table,
+            value_keys,
+            value_hints,
+            tables,
             a,
             positions,
             values,
@@ -704,53 +600,7 @@ fn first_partner(auto: bool, i: usize) -> usize
     if auto { i + 1 } else { 0 }
 }
 
-// All pairs of the run, pair by pair.
-fn fill_rows(
-    auto: bool,
-    setup: Setup,
-    list: &[f64],
-    value_edges: &[f64],
-    a_positions: &[f64],
-    a_values: &[f64],
-    a_weights: &[f64],
-    a_stride: usize,
-    a_n: usize,
-    b_positions: &[f64],
-    b_values: &[f64],
-    b_weights: &[f64],
-    b_stride: usize,
-    b_n: usize,
-    scratch: &mut [f64],
-)
-    requires { ⌜ Readable (now «a_positions») (now «a_values») (now «a_weights») «a_n» «a_stride» ⌝ }
-    requires { ⌜ Readable (now «b_positions») (now «b_values») (now «b_weights») «b_n» «b_stride» ⌝ }
-    requires { ⌜ (auto ≡ true → (pointIn (now «a_positions») (now «a_values») (now «a_weights») «a_stride» ≡ pointIn (now «b_positions») (now «b_values») (now «b_weights») «b_stride») × («a_n» ≡ «b_n»)) ⌝ }
-    ensures { λ _. ⌜ now (scratch .exit) ≡ filled setup (now (list .entry)) (now («value_edges» .entry)) auto
-        (pointsIn (now («a_positions» .entry)) (now («a_values» .entry)) (now («a_weights» .entry)) «a_stride» «a_n»)
-        (pointsIn (now («b_positions» .entry)) (now («b_values» .entry)) (now («b_weights» .entry)) «b_stride» «b_n») (now (scratch .entry)) ⌝ }
-{
-    let mut i = 0;
-    while i < a_n {
-        let a = point_at(a_positions, a_values, a_weights, a_stride, i);
-        let from = first_partner(auto, i);
-        add_row(
-            setup,
-            list,
-            value_edges,
-            a,
-            b_positions,
-            b_values,
-            b_weights,
-            b_stride,
-            from,
-            b_n,
-            scratch,
-        );
-        i += 1;
-    }
-}
-
-// All pairs of the run, in batches.
+// All pairs of the run, in batches. d and places are room.
 fn fill_batches(
     auto: bool,
     setup: Setup,
@@ -758,7 +608,9 @@ fn fill_batches(
     value_edges: &[f64],
     keys: &[u64],
     hints: &[u8],
-    table: Table,
+    value_keys: &[u64],
+    value_hints: &[u8],
+    tables: Tables,
     a_positions: &[f64],
     a_values: &[f64],
     a_weights: &[f64],
@@ -769,18 +621,19 @@ fn fill_batches(
     b_weights: &[f64],
     b_stride: usize,
     b_n: usize,
+    d: &mut [f64],
+    places: &mut [usize],
     scratch: &mut [f64],
 )
-    requires { ⌜ Tabled (setup .edges) (now list) table (now keys) ⌝ }
+    requires { ⌜ TabledRun setup (now list) (now «value_edges») tables (now keys) (now «value_keys») ⌝ }
     requires { ⌜ Readable (now «a_positions») (now «a_values») (now «a_weights») «a_n» «a_stride» ⌝ }
     requires { ⌜ Readable (now «b_positions») (now «b_values») (now «b_weights») «b_n» «b_stride» ⌝ }
     requires { ⌜ (auto ≡ true → (pointIn (now «a_positions») (now «a_values») (now «a_weights») «a_stride» ≡ pointIn (now «b_positions») (now «b_values») (now «b_weights») «b_stride») × («a_n» ≡ «b_n»)) ⌝ }
+    requires { ⌜ (0 < length (now d)) × (length (now d) < length (now places)) ⌝ }
     ensures { λ _. ⌜ now (scratch .exit) ≡ filled setup (now (list .entry)) (now («value_edges» .entry)) auto
         (pointsIn (now («a_positions» .entry)) (now («a_values» .entry)) (now («a_weights» .entry)) «a_stride» «a_n»)
         (pointsIn (now («b_positions» .entry)) (now («b_values» .entry)) (now («b_weights» .entry)) «b_stride» «b_n») (now (scratch .entry)) ⌝ }
 {
-    let mut d = [0.0f64; 256];
-    let mut places = [0usize; 257];
     let mut i = 0;
     while i < a_n {
         let a = point_at(a_positions, a_values, a_weights, a_stride, i);
@@ -791,7 +644,9 @@ fn fill_batches(
             value_edges,
             keys,
             hints,
-            table,
+            value_keys,
+            value_hints,
+            tables,
             a,
             b_positions,
             b_values,
@@ -799,15 +654,79 @@ fn fill_batches(
             b_stride,
             start,
             b_n,
-            &mut d,
-            &mut places,
+            &mut *d,
+            &mut *places,
             &mut *scratch,
         );
         i += 1;
     }
 }
 
-// The same where the edges can be looked up by keys.
+// How many keys pay for n second points. None where a lookup wants none.
+fn key_count(edges: BuiltEdges, len: usize, n: usize) -> usize
+    ensures { λ r. ⌜ r ≤ 257 ⌝ }
+{
+    match edges {
+        BuiltEdges::Regular(_) => 0,
+        BuiltEdges::Irregular => {
+            if n < 3 {
+                return 0;
+            }
+            if len < 34 {
+                return 33;
+            }
+            257
+        }
+    }
+}
+
+// How many hints do.
+fn hint_count(edges: BuiltEdges, n: usize) -> usize
+    ensures { λ r. ⌜ r ≤ 4096 ⌝ }
+{
+    match edges {
+        BuiltEdges::Regular(_) => 0,
+        BuiltEdges::Irregular => {
+            if n < 160 {
+                return 512;
+            }
+            4096
+        }
+    }
+}
+
+fn value_key_count(kind: Reducer, len: usize, n: usize) -> usize
+    ensures { λ r. ⌜ r ≤ 257 ⌝ }
+{
+    match kind {
+        Reducer::Comp0Mean => 0,
+        Reducer::ComponentSumMean => 0,
+        Reducer::ComponentSumHistogram(edges) => key_count(edges, len, n),
+    }
+}
+
+fn value_hint_count(kind: Reducer, n: usize) -> usize
+    ensures { λ r. ⌜ r ≤ 4096 ⌝ }
+{
+    match kind {
+        Reducer::Comp0Mean => 0,
+        Reducer::ComponentSumMean => 0,
+        Reducer::ComponentSumHistogram(edges) => hint_count(edges, n),
+    }
+}
+
+// How many of the hints the range of the edges takes: two less.
+fn span_of(hints: usize) -> f64 {
+    if hints < 4096 { 510.0 } else { 4094.0 }
+}
+
+fn fill_hints(list: &[f64], table: Table, hints: &mut [u8]) {
+    if hints.len() > 0 {
+        edge_table::fill_hints(list, table, hints);
+    }
+}
+
+// The tables, then all pairs. All but scratch is room.
 fn fill_tabled(
     auto: bool,
     setup: Setup,
@@ -823,38 +742,42 @@ fn fill_tabled(
     b_weights: &[f64],
     b_stride: usize,
     b_n: usize,
+    keys: &mut [u64],
+    hints: &mut [u8],
+    value_keys: &mut [u64],
+    value_hints: &mut [u8],
+    d: &mut [f64],
+    places: &mut [usize],
     scratch: &mut [f64],
 )
-    requires { ⌜ Usable (setup .edges) (now list) ⌝ }
+    requires { ⌜ UsableRun setup (now list) (now «value_edges») ⌝ }
     requires { ⌜ Readable (now «a_positions») (now «a_values») (now «a_weights») «a_n» «a_stride» ⌝ }
     requires { ⌜ Readable (now «b_positions») (now «b_values») (now «b_weights») «b_n» «b_stride» ⌝ }
     requires { ⌜ (auto ≡ true → (pointIn (now «a_positions») (now «a_values») (now «a_weights») «a_stride» ≡ pointIn (now «b_positions») (now «b_values») (now «b_weights») «b_stride») × («a_n» ≡ «b_n»)) ⌝ }
+    requires { ⌜ (0 < length (now d)) × (length (now d) < length (now places)) ⌝ }
     ensures { λ _. ⌜ now (scratch .exit) ≡ filled setup (now (list .entry)) (now («value_edges» .entry)) auto
         (pointsIn (now («a_positions» .entry)) (now («a_values» .entry)) (now («a_weights» .entry)) «a_stride» «a_n»)
         (pointsIn (now («b_positions» .entry)) (now («b_values» .entry)) (now («b_weights» .entry)) «b_stride» «b_n») (now (scratch .entry)) ⌝ }
 {
-    let mut keys = [0u64; 257];
-    let mut hints = [0u8; 4096];
-    let edges = setup.edges;
-    let count = hint_count(list.len(), b_n);
-    let span = hint_span(b_n);
-    let table = ends_of(edges, list, span);
-    keys_of(list, &mut keys);
-    fill_hints(
-        list,
-        table.first,
-        (table.last - table.first) / span,
-        count,
-        &mut hints,
-    );
+    let built = setup.edges;
+    let kind = setup.reducer;
+    let edges = edge_table::table_of(built, list, span_of(hints.len()));
+    let values = edge_table::value_table_of(kind, value_edges, span_of(value_hints.len()));
+    edge_table::keys_of(list, &mut *keys);
+    edge_table::keys_of(value_edges, &mut *value_keys);
+    fill_hints(list, edges, &mut *hints);
+    fill_hints(value_edges, values, &mut *value_hints);
+    let tables = Tables { edges, values };
     fill_batches(
         auto,
         setup,
         list,
         value_edges,
-        &keys,
-        &hints,
-        table,
+        &*keys,
+        &*hints,
+        &*value_keys,
+        &*value_hints,
+        tables,
         a_positions,
         a_values,
         a_weights,
@@ -865,8 +788,212 @@ fn fill_tabled(
         b_weights,
         b_stride,
         b_n,
+        &mut *d,
+        &mut *places,
         scratch,
     );
+}
+
+// Few second points: little room, and no hints.
+fn fill_some(
+    auto: bool,
+    setup: Setup,
+    list: &[f64],
+    value_edges: &[f64],
+    a_positions: &[f64],
+    a_values: &[f64],
+    a_weights: &[f64],
+    a_stride: usize,
+    a_n: usize,
+    b_positions: &[f64],
+    b_values: &[f64],
+    b_weights: &[f64],
+    b_stride: usize,
+    b_n: usize,
+    scratch: &mut [f64],
+)
+    requires { ⌜ UsableRun setup (now list) (now «value_edges») ⌝ }
+    requires { ⌜ Readable (now «a_positions») (now «a_values») (now «a_weights») «a_n» «a_stride» ⌝ }
+    requires { ⌜ Readable (now «b_positions») (now «b_values») (now «b_weights») «b_n» «b_stride» ⌝ }
+    requires { ⌜ (auto ≡ true → (pointIn (now «a_positions») (now «a_values») (now «a_weights») «a_stride» ≡ pointIn (now «b_positions») (now «b_values») (now «b_weights») «b_stride») × («a_n» ≡ «b_n»)) ⌝ }
+    ensures { λ _. ⌜ now (scratch .exit) ≡ filled setup (now (list .entry)) (now («value_edges» .entry)) auto
+        (pointsIn (now («a_positions» .entry)) (now («a_values» .entry)) (now («a_weights» .entry)) «a_stride» «a_n»)
+        (pointsIn (now («b_positions» .entry)) (now («b_values» .entry)) (now («b_weights» .entry)) «b_stride» «b_n») (now (scratch .entry)) ⌝ }
+{
+    let edges = setup.edges;
+    let kind = setup.reducer;
+    let k = key_count(edges, list.len(), b_n);
+    let h = 0;
+    let value_k = value_key_count(kind, value_edges.len(), b_n);
+    let value_h = 0;
+    let mut keys = [0u64; 257];
+    let mut hints = [0u8; 1];
+    let mut value_keys = [0u64; 257];
+    let mut value_hints = [0u8; 1];
+    let mut d = [0.0f64; 32];
+    let mut places = [0usize; 33];
+    fill_tabled(
+        auto,
+        setup,
+        list,
+        value_edges,
+        a_positions,
+        a_values,
+        a_weights,
+        a_stride,
+        a_n,
+        b_positions,
+        b_values,
+        b_weights,
+        b_stride,
+        b_n,
+        &mut keys[..k],
+        &mut hints[..h],
+        &mut value_keys[..value_k],
+        &mut value_hints[..value_h],
+        &mut d,
+        &mut places,
+        scratch,
+    );
+}
+
+fn at_most_33(n: usize) -> usize
+    ensures { λ r. ⌜ r ≤ 33 ⌝ }
+{
+    if n < 33 { n } else { 33 }
+}
+
+// The same where there are few edges too.
+fn fill_few(
+    auto: bool,
+    setup: Setup,
+    list: &[f64],
+    value_edges: &[f64],
+    a_positions: &[f64],
+    a_values: &[f64],
+    a_weights: &[f64],
+    a_stride: usize,
+    a_n: usize,
+    b_positions: &[f64],
+    b_values: &[f64],
+    b_weights: &[f64],
+    b_stride: usize,
+    b_n: usize,
+    scratch: &mut [f64],
+)
+    requires { ⌜ UsableRun setup (now list) (now «value_edges») ⌝ }
+    requires { ⌜ Readable (now «a_positions») (now «a_values») (now «a_weights») «a_n» «a_stride» ⌝ }
+    requires { ⌜ Readable (now «b_positions») (now «b_values») (now «b_weights») «b_n» «b_stride» ⌝ }
+    requires { ⌜ (auto ≡ true → (pointIn (now «a_positions») (now «a_values») (now «a_weights») «a_stride» ≡ pointIn (now «b_positions») (now «b_values») (now «b_weights») «b_stride») × («a_n» ≡ «b_n»)) ⌝ }
+    ensures { λ _. ⌜ now (scratch .exit) ≡ filled setup (now (list .entry)) (now («value_edges» .entry)) auto
+        (pointsIn (now («a_positions» .entry)) (now («a_values» .entry)) (now («a_weights» .entry)) «a_stride» «a_n»)
+        (pointsIn (now («b_positions» .entry)) (now («b_values» .entry)) (now («b_weights» .entry)) «b_stride» «b_n») (now (scratch .entry)) ⌝ }
+{
+    let edges = setup.edges;
+    let kind = setup.reducer;
+    let k = at_most_33(key_count(edges, list.len(), b_n));
+    let h = 0;
+    let value_k = at_most_33(value_key_count(kind, value_edges.len(), b_n));
+    let value_h = 0;
+    let mut keys = [0u64; 33];
+    let mut hints = [0u8; 1];
+    let mut value_keys = [0u64; 33];
+    let mut value_hints = [0u8; 1];
+    let mut d = [0.0f64; 32];
+    let mut places = [0usize; 33];
+    fill_tabled(
+        auto,
+        setup,
+        list,
+        value_edges,
+        a_positions,
+        a_values,
+        a_weights,
+        a_stride,
+        a_n,
+        b_positions,
+        b_values,
+        b_weights,
+        b_stride,
+        b_n,
+        &mut keys[..k],
+        &mut hints[..h],
+        &mut value_keys[..value_k],
+        &mut value_hints[..value_h],
+        &mut d,
+        &mut places,
+        scratch,
+    );
+}
+
+// Many second points.
+fn fill_many(
+    auto: bool,
+    setup: Setup,
+    list: &[f64],
+    value_edges: &[f64],
+    a_positions: &[f64],
+    a_values: &[f64],
+    a_weights: &[f64],
+    a_stride: usize,
+    a_n: usize,
+    b_positions: &[f64],
+    b_values: &[f64],
+    b_weights: &[f64],
+    b_stride: usize,
+    b_n: usize,
+    scratch: &mut [f64],
+)
+    requires { ⌜ UsableRun setup (now list) (now «value_edges») ⌝ }
+    requires { ⌜ Readable (now «a_positions») (now «a_values») (now «a_weights») «a_n» «a_stride» ⌝ }
+    requires { ⌜ Readable (now «b_positions») (now «b_values») (now «b_weights») «b_n» «b_stride» ⌝ }
+    requires { ⌜ (auto ≡ true → (pointIn (now «a_positions») (now «a_values») (now «a_weights») «a_stride» ≡ pointIn (now «b_positions») (now «b_values») (now «b_weights») «b_stride») × («a_n» ≡ «b_n»)) ⌝ }
+    ensures { λ _. ⌜ now (scratch .exit) ≡ filled setup (now (list .entry)) (now («value_edges» .entry)) auto
+        (pointsIn (now («a_positions» .entry)) (now («a_values» .entry)) (now («a_weights» .entry)) «a_stride» «a_n»)
+        (pointsIn (now («b_positions» .entry)) (now («b_values» .entry)) (now («b_weights» .entry)) «b_stride» «b_n») (now (scratch .entry)) ⌝ }
+{
+    let edges = setup.edges;
+    let kind = setup.reducer;
+    let k = key_count(edges, list.len(), b_n);
+    let h = hint_count(edges, b_n);
+    let value_k = value_key_count(kind, value_edges.len(), b_n);
+    let value_h = value_hint_count(kind, b_n);
+    let mut keys = [0u64; 257];
+    let mut hints = [0u8; 4096];
+    let mut value_keys = [0u64; 257];
+    let mut value_hints = [0u8; 4096];
+    let mut d = [0.0f64; 256];
+    let mut places = [0usize; 257];
+    fill_tabled(
+        auto,
+        setup,
+        list,
+        value_edges,
+        a_positions,
+        a_values,
+        a_weights,
+        a_stride,
+        a_n,
+        b_positions,
+        b_values,
+        b_weights,
+        b_stride,
+        b_n,
+        &mut keys[..k],
+        &mut hints[..h],
+        &mut value_keys[..value_k],
+        &mut value_hints[..value_h],
+        &mut d,
+        &mut places,
+        scratch,
+    );
+}
+
+fn few_edges(len: usize, value_len: usize) -> bool {
+    if len > 33 {
+        return false;
+    }
+    value_len < 34
 }
 
 // All pairs of the run, first point ascending, second ascending within it. In auto the two sets are one.
@@ -887,6 +1014,7 @@ fn fill(
     b_n: usize,
     scratch: &mut [f64],
 )
+    requires { ⌜ UsableRun setup (now list) (now «value_edges») ⌝ }
     requires { ⌜ Readable (now «a_positions») (now «a_values») (now «a_weights») «a_n» «a_stride» ⌝ }
     requires { ⌜ Readable (now «b_positions») (now «b_values») (now «b_weights») «b_n» «b_stride» ⌝ }
     requires { ⌜ (auto ≡ true → (pointIn (now «a_positions») (now «a_values») (now «a_weights») «a_stride» ≡ pointIn (now «b_positions») (now «b_values») (now «b_weights») «b_stride») × («a_n» ≡ «b_n»)) ⌝ }
@@ -894,10 +1022,9 @@ fn fill(
         (pointsIn (now («a_positions» .entry)) (now («a_values» .entry)) (now («a_weights» .entry)) «a_stride» «a_n»)
         (pointsIn (now («b_positions» .entry)) (now («b_values» .entry)) (now («b_weights» .entry)) «b_stride» «b_n») (now (scratch .entry)) ⌝ }
 {
-    if table_pays(list.len(), b_n) {
-        let edges = setup.edges;
-        if is_usable(edges, list, b_n) {
-            fill_tabled(
+    if b_n < 33 {
+        if few_edges(list.len(), value_edges.len()) {
+            fill_few(
                 auto,
                 setup,
                 list,
@@ -916,8 +1043,26 @@ fn fill(
             );
             return;
         }
+        fill_some(
+            auto,
+            setup,
+            list,
+            value_edges,
+            a_positions,
+            a_values,
+            a_weights,
+            a_stride,
+            a_n,
+            b_positions,
+            b_values,
+            b_weights,
+            b_stride,
+            b_n,
+            scratch,
+        );
+        return;
     }
-    fill_rows(
+    fill_many(
         auto,
         setup,
         list,
@@ -957,6 +1102,7 @@ fn run_in(
     scratch: &mut [f64],
     pack: &mut [f64],
 )
+    requires { ⌜ UsableRun setup (now list) (now «value_edges») ⌝ }
     requires { ⌜ Readable (now «a_positions») (now «a_values») (now «a_weights») «a_n» «a_stride» ⌝ }
     requires { ⌜ Readable (now «b_positions») (now «b_values») (now «b_weights») «b_n» «b_stride» ⌝ }
     requires { ⌜ (auto ≡ true → (pointIn (now «a_positions») (now «a_values») (now «a_weights») «a_stride» ≡ pointIn (now «b_positions») (now «b_values») (now «b_weights») «b_stride») × («a_n» ≡ «b_n»)) ⌝ }
@@ -982,6 +1128,253 @@ fn run_in(
         scratch,
     );
     parallel_serial::add_scratch(scratch, pack);
+}
+
+// Fewer zeros: a small run need not pay for 4,096.
+fn zeros_64() -> [f64; 64]
+    ensures { λ r. ⌜ r ≡ take 64 zeroPack ⌝ }
+{
+    [0.0; 64]
+}
+
+fn zeros_512() -> [f64; 512]
+    ensures { λ r. ⌜ r ≡ take 512 zeroPack ⌝ }
+{
+    [0.0; 512]
+}
+
+fn run_64(
+    auto: bool,
+    setup: Setup,
+    list: &[f64],
+    value_edges: &[f64],
+    a_positions: &[f64],
+    a_values: &[f64],
+    a_weights: &[f64],
+    a_stride: usize,
+    a_n: usize,
+    b_positions: &[f64],
+    b_values: &[f64],
+    b_weights: &[f64],
+    b_stride: usize,
+    b_n: usize,
+    used: usize,
+    pack: &mut [f64],
+)
+    requires { ⌜ used ≤ 64 ⌝ }
+    requires { ⌜ UsableRun setup (now list) (now «value_edges») ⌝ }
+    requires { ⌜ Readable (now «a_positions») (now «a_values») (now «a_weights») «a_n» «a_stride» ⌝ }
+    requires { ⌜ Readable (now «b_positions») (now «b_values») (now «b_weights») «b_n» «b_stride» ⌝ }
+    requires { ⌜ (auto ≡ true → (pointIn (now «a_positions») (now «a_values») (now «a_weights») «a_stride» ≡ pointIn (now «b_positions») (now «b_values») (now «b_weights») «b_stride») × («a_n» ≡ «b_n»)) ⌝ }
+    ensures { λ _. ⌜ now (pack .exit) ≡ addedScratch (now (pack .entry)) (filled setup (now (list .entry)) (now («value_edges» .entry)) auto
+        (pointsIn (now («a_positions» .entry)) (now («a_values» .entry)) (now («a_weights» .entry)) «a_stride» «a_n»)
+        (pointsIn (now («b_positions» .entry)) (now («b_values» .entry)) (now («b_weights» .entry)) «b_stride» «b_n») (take used zeroPack)) ⌝ }
+{
+    let mut scratch = zeros_64();
+    run_in(
+        auto,
+        setup,
+        list,
+        value_edges,
+        a_positions,
+        a_values,
+        a_weights,
+        a_stride,
+        a_n,
+        b_positions,
+        b_values,
+        b_weights,
+        b_stride,
+        b_n,
+        &mut scratch[..used],
+        pack,
+    );
+}
+
+fn run_512(
+    auto: bool,
+    setup: Setup,
+    list: &[f64],
+    value_edges: &[f64],
+    a_positions: &[f64],
+    a_values: &[f64],
+    a_weights: &[f64],
+    a_stride: usize,
+    a_n: usize,
+    b_positions: &[f64],
+    b_values: &[f64],
+    b_weights: &[f64],
+    b_stride: usize,
+    b_n: usize,
+    used: usize,
+    pack: &mut [f64],
+)
+    requires { ⌜ used ≤ 512 ⌝ }
+    requires { ⌜ UsableRun setup (now list) (now «value_edges») ⌝ }
+    requires { ⌜ Readable (now «a_positions») (now «a_values») (now «a_weights») «a_n» «a_stride» ⌝ }
+    requires { ⌜ Readable (now «b_positions») (now «b_values») (now «b_weights») «b_n» «b_stride» ⌝ }
+    requires { ⌜ (auto ≡ true → (pointIn (now «a_positions») (now «a_values») (now «a_weights») «a_stride» ≡ pointIn (now «b_positions») (now «b_values») (now «b_weights») «b_stride») × («a_n» ≡ «b_n»)) ⌝ }
+    ensures { λ _. ⌜ now (pack .exit) ≡ addedScratch (now (pack .entry)) (filled setup (now (list .entry)) (now («value_edges» .entry)) auto
+        (pointsIn (now («a_positions» .entry)) (now («a_values» .entry)) (now («a_weights» .entry)) «a_stride» «a_n»)
+        (pointsIn (now («b_positions» .entry)) (now («b_values» .entry)) (now («b_weights» .entry)) «b_stride» «b_n») (take used zeroPack)) ⌝ }
+{
+    let mut scratch = zeros_512();
+    run_in(
+        auto,
+        setup,
+        list,
+        value_edges,
+        a_positions,
+        a_values,
+        a_weights,
+        a_stride,
+        a_n,
+        b_positions,
+        b_values,
+        b_weights,
+        b_stride,
+        b_n,
+        &mut scratch[..used],
+        pack,
+    );
+}
+
+fn run_4096(
+    auto: bool,
+    setup: Setup,
+    list: &[f64],
+    value_edges: &[f64],
+    a_positions: &[f64],
+    a_values: &[f64],
+    a_weights: &[f64],
+    a_stride: usize,
+    a_n: usize,
+    b_positions: &[f64],
+    b_values: &[f64],
+    b_weights: &[f64],
+    b_stride: usize,
+    b_n: usize,
+    used: usize,
+    pack: &mut [f64],
+)
+    requires { ⌜ used ≤ 4096 ⌝ }
+    requires { ⌜ UsableRun setup (now list) (now «value_edges») ⌝ }
+    requires { ⌜ Readable (now «a_positions») (now «a_values») (now «a_weights») «a_n» «a_stride» ⌝ }
+    requires { ⌜ Readable (now «b_positions») (now «b_values») (now «b_weights») «b_n» «b_stride» ⌝ }
+    requires { ⌜ (auto ≡ true → (pointIn (now «a_positions») (now «a_values») (now «a_weights») «a_stride» ≡ pointIn (now «b_positions») (now «b_values») (now «b_weights») «b_stride») × («a_n» ≡ «b_n»)) ⌝ }
+    ensures { λ _. ⌜ now (pack .exit) ≡ addedScratch (now (pack .entry)) (filled setup (now (list .entry)) (now («value_edges» .entry)) auto
+        (pointsIn (now («a_positions» .entry)) (now («a_values» .entry)) (now («a_weights» .entry)) «a_stride» «a_n»)
+        (pointsIn (now («b_positions» .entry)) (now («b_values» .entry)) (now («b_weights» .entry)) «b_stride» «b_n») (take used zeroPack)) ⌝ }
+{
+    let mut scratch = parallel_serial::zeros();
+    run_in(
+        auto,
+        setup,
+        list,
+        value_edges,
+        a_positions,
+        a_values,
+        a_weights,
+        a_stride,
+        a_n,
+        b_positions,
+        b_values,
+        b_weights,
+        b_stride,
+        b_n,
+        &mut scratch[..used],
+        pack,
+    );
+}
+
+// The run, its scratch as large as it must be.
+fn run_sized(
+    auto: bool,
+    setup: Setup,
+    list: &[f64],
+    value_edges: &[f64],
+    a_positions: &[f64],
+    a_values: &[f64],
+    a_weights: &[f64],
+    a_stride: usize,
+    a_n: usize,
+    b_positions: &[f64],
+    b_values: &[f64],
+    b_weights: &[f64],
+    b_stride: usize,
+    b_n: usize,
+    used: usize,
+    pack: &mut [f64],
+)
+    requires { ⌜ used ≤ 4096 ⌝ }
+    requires { ⌜ UsableRun setup (now list) (now «value_edges») ⌝ }
+    requires { ⌜ Readable (now «a_positions») (now «a_values») (now «a_weights») «a_n» «a_stride» ⌝ }
+    requires { ⌜ Readable (now «b_positions») (now «b_values») (now «b_weights») «b_n» «b_stride» ⌝ }
+    requires { ⌜ (auto ≡ true → (pointIn (now «a_positions») (now «a_values») (now «a_weights») «a_stride» ≡ pointIn (now «b_positions») (now «b_values») (now «b_weights») «b_stride») × («a_n» ≡ «b_n»)) ⌝ }
+    ensures { λ _. ⌜ now (pack .exit) ≡ addedScratch (now (pack .entry)) (filled setup (now (list .entry)) (now («value_edges» .entry)) auto
+        (pointsIn (now («a_positions» .entry)) (now («a_values» .entry)) (now («a_weights» .entry)) «a_stride» «a_n»)
+        (pointsIn (now («b_positions» .entry)) (now («b_values» .entry)) (now («b_weights» .entry)) «b_stride» «b_n») (take used zeroPack)) ⌝ }
+{
+    if used <= 64 {
+        run_64(
+            auto,
+            setup,
+            list,
+            value_edges,
+            a_positions,
+            a_values,
+            a_weights,
+            a_stride,
+            a_n,
+            b_positions,
+            b_values,
+            b_weights,
+            b_stride,
+            b_n,
+            used,
+            pack,
+        );
+        return;
+    }
+    if used <= 512 {
+        run_512(
+            auto,
+            setup,
+            list,
+            value_edges,
+            a_positions,
+            a_values,
+            a_weights,
+            a_stride,
+            a_n,
+            b_positions,
+            b_values,
+            b_weights,
+            b_stride,
+            b_n,
+            used,
+            pack,
+        );
+        return;
+    }
+    run_4096(
+        auto,
+        setup,
+        list,
+        value_edges,
+        a_positions,
+        a_values,
+        a_weights,
+        a_stride,
+        a_n,
+        b_positions,
+        b_values,
+        b_weights,
+        b_stride,
+        b_n,
+        used,
+        pack,
+    );
 }
 
 // An accepted run. In auto the two sets are one.
@@ -1024,8 +1417,7 @@ fn drive(
     let a_stride = stride_of(a);
     let b_stride = stride_of(b);
     let used = n_states * state_size;
-    let mut scratch = parallel_serial::zeros();
-    run_in(
+    run_sized(
         auto,
         setup,
         list,
@@ -1040,7 +1432,7 @@ fn drive(
         b_weights,
         b_stride,
         b.n_points,
-        &mut scratch[..used],
+        used,
         pack,
     );
 }

@@ -9,7 +9,7 @@ use Rattle.edge_table.proofs.keys_of.Tie as tie
 use Rattle.edge_table.proofs.keys_of.Reads as reads
 use Rattle.edge_table.proofs.keys_of.Lts as lts
 use Rattle.edge_table.proofs.edge_at.Reads as edge-at-reads
-use Rattle.floats.proofs.total_key.Reads as total-key-reads
+use Rattle.edge_table.proofs.key_of.Reads as key-of-reads
 
 abbrev Inv-loop : tie.InvT-loop
 Inv-loop list keys₀ i₀ keys i = (i ≤ length keys₀) × (length keys ≡ length keys₀) × (keys ≡ keysTo list i keys₀)
@@ -26,8 +26,8 @@ edge-at-requires : tie.Need-edge-at-requires Inv-loop μ-loop
 edge-at-requires c κs = search needs
 
 -- src/lib.rt:36:19
-total-key-requires : tie.Need-total-key-requires Inv-loop μ-loop
-total-key-requires c κs = search needs
+key-of-requires : tie.Need-key-of-requires Inv-loop μ-loop
+key-of-requires c κs = search needs
 
 -- src/lib.rt:36:9
 mul-keys : tie.Need-mul-keys Inv-loop μ-loop
@@ -65,7 +65,7 @@ keys-of-spec =
     μ-loop
     loop-holds
     edge-at-requires
-    total-key-requires
+    key-of-requires
     mul-keys
     slice-write-keys
     add-i

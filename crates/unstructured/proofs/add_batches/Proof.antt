@@ -2,10 +2,10 @@ use mathlib.Core.Path.{_≡_, refl}
 use Prim.Native.Nat.{_-_, _+_, _≤_}
 use native.Mathlib.Omega.{arith}
 use lib.ListN.{length}
-use borrow.Author.Needs.{needs}
 use Rattle.unstructured.specs.Pairs.{thePoint, pointIn, rowAdded}
 use Rattle.unstructured.proofs.Loops.{row-done}
 use Rattle.unstructured.proofs.Batches.{batches-turn}
+use borrow.Author.Needs.{needs}
 use Rattle.unstructured.proofs.add_batches.Statement.{statement}
 use Rattle.unstructured.proofs.add_batches.Tie as tie
 use Rattle.unstructured.proofs.add_batches.Reads as reads
@@ -14,28 +14,24 @@ use Rattle.unstructured.proofs.add_batch.Reads as add-batch-reads
 use Rattle.unstructured.proofs.batch_size.Reads as batch-size-reads
 
 abbrev Inv-loop : tie.InvT-loop
-Inv-loop setup list value-edges keys hints table a positions values weights stride from n d₀ places₀ scratch₀ j₀ d places scratch j =
+Inv-loop setup list value-edges keys hints value-keys value-hints tables a positions values weights stride from n d₀ places₀ scratch₀ j₀ d places scratch j =
     (length d ≡ length d₀) × (length places ≡ length places₀) × (length scratch ≡ length scratch₀) × (rowAdded setup list value-edges (thePoint a) (pointIn positions values weights stride) j (n - j) scratch ≡ rowAdded setup list value-edges (thePoint a) (pointIn positions values weights stride) from (n - from) scratch₀)
 
 abbrev μ-loop : tie.MeasureT-loop
-μ-loop setup list value-edges keys hints table a positions values weights stride from n d₀ places₀ scratch₀ j₀ d places scratch j =
+μ-loop setup list value-edges keys hints value-keys value-hints tables a positions values weights stride from n d₀ places₀ scratch₀ j₀ d places scratch j =
     n - j
 
--- src/lib.rt:623:5
 loop-holds : tie.Need-loop-holds Inv-loop μ-loop
 loop-holds c = (refl, refl, refl, refl)
 
--- src/lib.rt:624:28
-sub-batch-size : tie.Need-sub-batch-size Inv-loop μ-loop
-sub-batch-size c = search needs
+sub-left : tie.Need-sub-left Inv-loop μ-loop
+sub-left c = search needs
 
--- src/lib.rt:624:13
 batch-size-requires : tie.Need-batch-size-requires Inv-loop μ-loop
-batch-size-requires c κs = search needs
+batch-size-requires c κs = (omega (arith, c .loop-test), omega (arith, c .before .loop .inv .0, c .before .before .before .before .before .before .before .before .before .before .before .before .before .before .pre .1 .1 .0))
 
--- src/lib.rt:625:9
 add-batch-requires : tie.Need-add-batch-requires Inv-loop μ-loop
-add-batch-requires c κs = let s = c .before .before .before .before .before .before .before .before .before .before .before .before .before .before .before .before in
+add-batch-requires c κs = let s = c .before .before .before .before .before .before .before .before .before .before .before .before .before .before .before .before .before .before in
     let t = c .before .before .before .before .before .loop in
     let m = c .before .before .before .batch-size in
     let l = c .before .before .before .before .loop-test in
@@ -47,17 +43,14 @@ add-batch-requires c κs = let s = c .before .before .before .before .before .be
       ),
     )
 
--- src/lib.rt:643:9
 add-j : tie.Need-add-j Inv-loop μ-loop
-add-j c = omega (arith, c .before .before .before .before .before .before .before .before .before .before .before .before .before .before .before .before .before .before .before .before .before .before .before .pre .1 .0 .few, c .before .before .before .before .before .before .before .before .before .before .batch-size .ensures, c .before .before .before .before .before .before .before .before .before .before .before .loop-test)
+add-j c = omega (arith, c .before .before .before .before .before .before .before .before .before .before .before .before .before .before .before .before .before .before .before .before .before .before .before .before .before .pre .1 .0 .few, c .before .before .before .before .before .before .before .before .before .before .batch-size .ensures, c .before .before .before .before .before .before .before .before .before .before .before .loop-test)
 
--- src/lib.rt:623:5
 loop-less : tie.Need-loop-less Inv-loop μ-loop
 loop-less c = omega (arith, c .before .before .before .before .before .before .before .before .before .before .batch-size .ensures, c .before .before .before .before .before .before .before .before .before .before .before .loop-test)
 
--- src/lib.rt:623:5
 loop-again : tie.Need-loop-again Inv-loop μ-loop
-loop-again c = let x = c .before .before .before .before .before .before .before .before .before .before .before .before .before .before .before .before .before .before .before .before .before .before .before .args in
+loop-again c = let x = c .before .before .before .before .before .before .before .before .before .before .before .before .before .before .before .before .before .before .before .before .before .before .before .before .before .args in
     let t = c .before .before .before .before .before .before .before .before .before .before .before .before .loop in
     let m = c .before .before .before .before .before .before .before .before .before .before .batch-size in (
       search needs,
@@ -67,36 +60,17 @@ loop-again c = let x = c .before .before .before .before .before .before .before
           (c .before .before .before .before .before .before .before .before .before .before .before .loop-test .taken) (m .ensures .1) (c .before .before .before .before .before .before .add-batch .ensures) (t .inv .3),
     )
 
--- src/lib.rt:598:1
 same-length : tie.Need-same-length Inv-loop μ-loop
 same-length c = search needs
 
--- src/lib.rt:598:1
 same-length-2 : tie.Need-same-length-2 Inv-loop μ-loop
 same-length-2 c = search needs
 
--- src/lib.rt:598:1
 same-length-3 : tie.Need-same-length-3 Inv-loop μ-loop
 same-length-3 c = search needs
 
--- src/lib.rt:598:1
 returns : tie.Need-returns Inv-loop μ-loop
 returns c = search row-done
 
 pub add-batches-spec : {M : Type 1} → statement M
-add-batches-spec =
-    tie.close
-    (tie.spec
-    Inv-loop
-    μ-loop
-    loop-holds
-    sub-batch-size
-    batch-size-requires
-    add-batch-requires
-    add-j
-    loop-less
-    loop-again
-    same-length
-    same-length-2
-    same-length-3
-    returns)
+add-batches-spec = tie.close (tie.spec Inv-loop μ-loop loop-holds sub-left batch-size-requires add-batch-requires add-j loop-less loop-again same-length same-length-2 same-length-3 returns)

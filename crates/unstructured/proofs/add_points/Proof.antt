@@ -7,19 +7,19 @@ use Rattle.unstructured.proofs.add_points.Lts as lts
 use Rattle.unstructured.proofs.add_pair.Reads as add-pair-reads
 use Rattle.unstructured.proofs.pair_of.Reads as pair-of-reads
 
--- src/lib.rt:173:9
+-- src/lib.rt:290:9
 pair-of-requires : tie.Need-pair-of-requires
 pair-of-requires c κs = search needs
 
--- src/lib.rt:174:5
+-- src/lib.rt:291:5
 add-pair-requires : tie.Need-add-pair-requires
 add-pair-requires c κs = search needs
 
--- src/lib.rt:163:1
+-- src/lib.rt:271:1
 same-length : tie.Need-same-length
 same-length c = search needs
 
--- src/lib.rt:163:1
+-- src/lib.rt:271:1
 returns : tie.Need-returns
 returns c = search pair-added
 
