@@ -10,14 +10,13 @@ use native.Mathlib.Omega.{arith}
 use lib.Dec.{T, leb, ltb}
 use lib.ListN.{length, getD, set, length-set, List·getD-eq-default}
 use lib.Seq.{getD-set-same, getD-set-other}
-use lib.Ieee.{Float, binary64, add, lt, le, isNan, fits}
-use lib.Ieee.Fits.{add-fits}
+use lib.Ieee.{Float, binary64, lt, le, isNan, fits}
 use borrow.Author.Tests.{lt-ltb, le-leb, lt-leb, ltb-true, ltb-false, leb-true}
 use Rattle.definitions.specs.Lists.{at}
 use Rattle.definitions.specs.Floats.{notAfter}
 use Rattle.definitions.specs.Bins as definitions
 use Rattle.definitions.specs.Bins.{regularIndex, irregularIndex, lastEdge, below, bins}
-use Rattle.definitions.specs.Reducer.{Datum, componentSum, stateKind}
+use Rattle.definitions.specs.Reducer.{stateKind}
 use Rattle.definitions.specs.Rules.{refusal, rule, edgesCallRules, kindRules, overState, allFinite, increasing}
 use Rattle.floats.specs.Order.{orderKey}
 use Rattle.floats.proofs.Keys.{key-order, sorted}
@@ -34,10 +33,9 @@ use Rattle.reducer.specs.declared.BuiltEdges.the-variants.{Regular, Irregular}
 use Rattle.reducer.specs.declared.Reducer.{Reducer}
 use Rattle.reducer.specs.declared.Reducer.the-variants.{Comp0Mean, ComponentSumMean, ComponentSumHistogram}
 use Rattle.reducer.specs.Readings.{edgesOf, kindOf}
-use Rattle.reducer.specs.Consume.{madeEdges, made, builtBin, valueBin, consumedAt, consumed}
-use Rattle.reducer.proofs.Ways.{consumed-found}
+use Rattle.reducer.specs.Consume.{madeEdges, made, builtBin}
 use Rattle.edge_table.specs.declared.Table.{Table}
-use Rattle.edge_table.specs.Table.{keysTo, keysOf, tableOf, encloses, searched, guessed, outsideOf, guessedBin, searchedBin, elseBin, keyedBin, tableBin, valueTableOf, tableValueBin, tableConsumed}
+use Rattle.edge_table.specs.Table.{keysTo, keysOf, tableOf, encloses, searched, guessed, outsideOf, guessedBin, searchedBin, elseBin, keyedBin, tableBin, valueTableOf}
 use Rattle.edge_table.specs.Tabled.{Usable, EndsOf, Keys, Tabled, UsableValues, TabledValues}
 
 -- ---- a value outside the ends has no bin
@@ -175,24 +173,6 @@ table-bin Irregular es keys hints table x t f = guessed-else es x f table keys t
 pub found-bin : (edges : BuiltEdges) (es : List Float) (keys hints : List ℕ) (table : Table) (x : Float) (o : Option ℕ) → o ≡ tableBin edges es keys hints table x → Tabled edges es table keys
     → fits binary64 x ≡ true → o ≡ builtBin edges es x
 found-bin edges es keys hints table x o e t f = e ∙ table-bin edges es keys hints table x t f
-
--- q is what `consume` left
-module _ (es : List Float) (keys hints : List ℕ) (table : Table) (d : Datum) where
-  table-value : (r : Reducer) → TabledValues r es table keys → tableValueBin r es keys hints table d ≡ valueBin r es d
-  table-value Comp0Mean t = refl
-  table-value ComponentSumMean t = refl
-  table-value (ComponentSumHistogram e) t = table-bin e es keys hints table (componentSum d) t (fitting (d .c0) (add binary64 (d .c1) (d .c2)))
-    where
-      flag : (b : Bool) → T b → b ≡ true
-      flag true h = refl
-      flag false h = absurd h
-
-      fitting : (a b : Float) → fits binary64 (add binary64 a b) ≡ true
-      fitting a b = flag _ (add-fits binary64 a b)
-
-  pub table-consumed : (r : Reducer) (n s : ℕ) (p q : List Float) → TabledValues r es table keys → q ≡ tableConsumed r es keys hints table n s d p → q ≡ consumed r es n s d p
-  unfolding tableConsumed
-  table-consumed r n s p q t e = e ∙ ap (λ (o : Option ℕ). consumedAt r (length es) o n s d p) (table-value r t) ∙ sym (consumed-found r es n s d p)
 
 -- ---- what the table's makers leave
 keys-length : (es : List Float) (n : ℕ) (keys : List ℕ) → length (keysTo es n keys) ≡ length keys

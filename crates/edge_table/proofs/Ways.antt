@@ -12,8 +12,6 @@ use lib.ListN.{length, getD, set, List·getD-eq-default}
 use lib.Ieee.{Float, lt, le, isNan, binary64, sub, div, ofBits, toBits}
 use borrow.Author.Tests.{lt-ltb, le-ltb, le-leb, lt-leb, ltb-true, ltb-false}
 use Rattle.definitions.specs.Lists.{at}
-use Rattle.definitions.specs.Reducer as definitions
-use Rattle.definitions.specs.Reducer.{componentSum}
 use Rattle.floats.specs.Order.{orderKey}
 use Rattle.floats.proofs.Keys.{key-plus, key-minus}
 use Rattle.bins.specs.declared.RegularBinEdges.{RegularBinEdges}
@@ -23,10 +21,10 @@ use Rattle.bins.specs.Answers.{indexOf}
 use Rattle.reducer.specs.declared.BuiltEdges.{BuiltEdges}
 use Rattle.reducer.specs.declared.BuiltEdges.the-variants.{Regular, Irregular}
 use Rattle.reducer.specs.declared.Reducer.{Reducer}
-use Rattle.reducer.specs.declared.Reducer.the-variants.{Comp0Mean, ComponentSumMean, ComponentSumHistogram}
-use Rattle.reducer.specs.Consume.{builtBin, consumedAt}
+use Rattle.reducer.specs.declared.Reducer.the-variants.{ComponentSumHistogram}
+use Rattle.reducer.specs.Consume.{builtBin}
 use Rattle.edge_table.specs.declared.Table.{Table}
-use Rattle.edge_table.specs.Table.{keysTo, keysOf, tableOf, placeOf, endOf, spread, binHinted, hintsOf, bit, rise, among32, searched, encloses, nudged, guessed, outsideOf, guessedBin, searchedBin, keyedBin, tableBin, valueTableOf, tableValueBin, tableConsumed}
+use Rattle.edge_table.specs.Table.{keysTo, keysOf, tableOf, placeOf, endOf, spread, binHinted, hintsOf, bit, rise, among32, searched, encloses, nudged, guessed, outsideOf, guessedBin, searchedBin, keyedBin, tableBin, valueTableOf}
 
 -- ---- keys
 module _ (list : List Float) (keys : List ℕ) where
@@ -269,18 +267,3 @@ module _ (edges : BuiltEdges) (list : List Float) (span : Float) where
 module _ (r : Reducer) (list : List Float) where
   pub table-histogram : (span : Float) (e : BuiltEdges) (t : Table) → r ≡ ComponentSumHistogram e → t ≡ tableOf e list span → t ≡ valueTableOf r list span
   table-histogram span e t h k = rw h k
-
-module _ (r : Reducer) (list : List Float) (keys hints : List ℕ) (table : Table) (d : definitions.Datum) where
-  pub value-comp0 : r ≡ Comp0Mean → none ≡ tableValueBin r list keys hints table d
-  value-comp0 e = rw e
-
-  pub value-sum : r ≡ ComponentSumMean → none ≡ tableValueBin r list keys hints table d
-  value-sum e = rw e
-
-  pub value-histogram : (k : BuiltEdges) (v : Float) (o : Option ℕ) → r ≡ ComponentSumHistogram k → v ≡ componentSum d → o ≡ tableBin k list keys hints table v → o ≡ tableValueBin r list keys hints table d
-  value-histogram k v o e c f = rw e (f ∙ ap (tableBin k list keys hints table) c)
-
-  pub consumed-is : (b : BinIndex) (n s : ℕ) (p q : List Float) → indexOf b ≡ tableValueBin r list keys hints table d → q ≡ consumedAt r (length list) (indexOf b) n s d p
-      → q ≡ tableConsumed r list keys hints table n s d p
-  unfolding tableConsumed
-  consumed-is b n s p q e f = f ∙ ap (λ (o : Option ℕ). consumedAt r (length list) o n s d p) e

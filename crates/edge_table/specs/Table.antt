@@ -7,14 +7,12 @@ use lib.Dec.{leb, ltb}
 use lib.ListN.{length, getD, set}
 use lib.Ieee.{Float, binary64, add, sub, mul, div, lt, le, isNan, ofBits, toBits}
 use Rattle.definitions.specs.Lists.{at}
-use Rattle.definitions.specs.Reducer as definitions
-use Rattle.definitions.specs.Reducer.{componentSum}
 use Rattle.floats.specs.Order.{orderKey}
 use Rattle.reducer.specs.declared.BuiltEdges.{BuiltEdges}
 use Rattle.reducer.specs.declared.BuiltEdges.the-variants.{Regular, Irregular}
 use Rattle.reducer.specs.declared.Reducer.{Reducer}
 use Rattle.reducer.specs.declared.Reducer.the-variants.{Comp0Mean, ComponentSumMean, ComponentSumHistogram}
-use Rattle.reducer.specs.Consume.{builtBin, consumedAt}
+use Rattle.reducer.specs.Consume.{builtBin}
 use Rattle.edge_table.specs.declared.Table.{Table}
 
 -- the order keys of the edges at the first n places; past the edges a NaN's key, which is above each number's
@@ -117,11 +115,3 @@ abbrev pub valueTableOf : Reducer → List Float → Float → Table
 valueTableOf Comp0Mean list span = noTable
 valueTableOf ComponentSumMean list span = noTable
 valueTableOf (ComponentSumHistogram e) list span = tableOf e list span
-
-abbrev pub tableValueBin : Reducer → List Float → List ℕ → List ℕ → Table → definitions.Datum → Option ℕ
-tableValueBin Comp0Mean list keys hints table d = none
-tableValueBin ComponentSumMean list keys hints table d = none
-tableValueBin (ComponentSumHistogram e) list keys hints table d = tableBin e list keys hints table (componentSum d)
-
-unfoldable pub tableConsumed : Reducer → List Float → List ℕ → List ℕ → Table → ℕ → ℕ → definitions.Datum → List Float → List Float
-tableConsumed r list keys hints table n s d pack = consumedAt r (length list) (tableValueBin r list keys hints table d) n s d pack

@@ -1,7 +1,6 @@
 // Lookups in edges by a table: keys and hints are made once, and each lookup tries a hint's bin, then a search by halves. A guess is tested, so nothing rests on it.
 use bins::BinIndex;
 use reducer::BuiltEdges;
-use reducer::Datum;
 use reducer::Reducer;
 ghost use mathlib.Core.Path.{_≡_};
 ghost use Prim.Native.Nat.{_+_, _-_, _≤_, _<_};
@@ -9,8 +8,7 @@ ghost use lib.ListN.{length, getD};
 ghost use Rattle.definitions.specs.Lists.{at};
 ghost use Rattle.floats.specs.Order.{orderKey};
 ghost use Rattle.bins.specs.Answers.{indexOf};
-ghost use Rattle.reducer.specs.Readings.{theDatum};
-ghost use Rattle.edge_table.specs.Table.{keysOf, tableOf, placeOf, endOf, spread, binHinted, hintsOf, rise, among32, searched, encloses, nudged, guessed, outsideOf, guessedBin, searchedBin, keyedBin, tableBin, noTable, valueTableOf, tableValueBin, tableConsumed};
+ghost use Rattle.edge_table.specs.Table.{keysOf, tableOf, placeOf, endOf, spread, binHinted, hintsOf, rise, among32, searched, encloses, nudged, guessed, outsideOf, guessedBin, searchedBin, keyedBin, tableBin, noTable, valueTableOf};
 
 // Ends of the edges, and places of hints a unit of the value.
 pub struct Table {
@@ -307,42 +305,4 @@ fn no_table() -> Table
         last: 0.0,
         scale: 0.0,
     }
-}
-
-fn value_bin(
-    reducer: Reducer,
-    list: &[f64],
-    keys: &[u64],
-    hints: &[u8],
-    table: Table,
-    datum: Datum,
-) -> BinIndex
-    ensures { λ r. ⌜ indexOf r ≡ tableValueBin reducer (now (list .entry)) (now (keys .entry)) (now (hints .entry)) table (theDatum datum) ⌝ }
-{
-    match reducer {
-        Reducer::Comp0Mean => BinIndex::None,
-        Reducer::ComponentSumMean => BinIndex::None,
-        Reducer::ComponentSumHistogram(e) => {
-            let value = reducer::component_sum(datum);
-            bin_of(e, list, keys, hints, table, value)
-        }
-    }
-}
-
-// `reducer::consume` with the value looked up by a table.
-pub fn consume(
-    reducer: Reducer,
-    value_edges: &[f64],
-    keys: &[u64],
-    hints: &[u8],
-    table: Table,
-    n_states: usize,
-    s: usize,
-    datum: Datum,
-    pack: &mut [f64],
-)
-    ensures { λ _. ⌜ now (pack .exit) ≡ tableConsumed reducer (now («value_edges» .entry)) (now (keys .entry)) (now (hints .entry)) table «n_states» s (theDatum datum) (now (pack .entry)) ⌝ }
-{
-    let found = value_bin(reducer, value_edges, keys, hints, table, datum);
-    reducer::consume_at(reducer, value_edges.len(), found, n_states, s, datum, pack);
 }

@@ -1,9 +1,8 @@
 // Makes each call of the fixed lists that the Rust answered, and counts the answers that differ (oracle/README.md has the lists' form).
 ghost use mathlib.Core.Path.{_≡_};
-ghost use Prim.Native.Nat.{_*_, _≤_};
+ghost use Prim.Native.Nat.{_≤_};
 ghost use lib.ListN.{length};
 
-mod blocks;
 mod cases;
 mod runs;
 mod words;
@@ -40,6 +39,7 @@ fn read_head(fd: i32) -> Head {
     }
 }
 
+// Whether the record's answer differs: 0 or 1.
 fn call(
     fd: i32,
     op: u64,
@@ -47,15 +47,18 @@ fn call(
     words: &mut [u64],
     floats: &mut [f64],
     room: &mut [f64],
-) -> bool
+) -> u64
     requires { ⌜ (length (now words) ≤ 8192) × (length (now floats) ≡ length (now words)) ⌝ }
+    ensures { λ r. ⌜ r ≤ 1 ⌝ }
 {
     if io::read_full(fd, bytes) != bytes.len() {
-        return false;
+        return 1;
     }
-    words::decode(bytes, words);
-    words::as_floats(words, floats);
-    cases::agrees(op, words, floats, room)
+    words::decode(bytes, words, floats);
+    if cases::agrees(op, words, floats, room) {
+        return 0;
+    }
+    1
 }
 
 fn next_call(
@@ -84,22 +87,17 @@ fn next_call(
     let n = head.n as usize;
     let size = n * 8;
     let op = head.op;
-    if call(
+    let differ = call(
         fd,
         op,
         &mut bytes[..size],
         &mut words[..n],
         &mut floats[..n],
         room,
-    ) {
-        return Step {
-            ended: false,
-            differ: 0,
-        };
-    }
+    );
     Step {
         ended: false,
-        differ: 1,
+        differ,
     }
 }
 

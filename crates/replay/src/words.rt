@@ -1,4 +1,5 @@
-// A record's words, as numbers and as floats.
+// A record's words, as numbers and as floats. Nothing is asked of a position: past the record's end a word is 0, a float a NaN, and a part ends with the record.
+ghost use mathlib.Core.Path.{_≡_};
 ghost use Prim.Native.Nat.{_<_, _≤_};
 ghost use lib.ListN.{length};
 
@@ -19,7 +20,18 @@ pub fn word_of(b: &[u8], k: usize) -> u64
     byte(b, k) + 256 * (byte(b, k + 1) + 256 * w2)
 }
 
-// Word i of the record, 0 past its end.
+// The record's words, by their bytes, and the floats of these bits.
+pub fn decode(bytes: &[u8], words: &mut [u64], floats: &mut [f64])
+    requires { ⌜ (length (now words) ≤ 8192) × (length (now floats) ≡ length (now words)) ⌝ }
+{
+    let mut i = 0;
+    while i < words.len() {
+        words[i] = word_of(bytes, i * 8);
+        floats[i] = floats::from_bits(words[i]);
+        i += 1;
+    }
+}
+
 pub fn word(words: &[u64], i: usize) -> u64 {
     if i < words.len() { words[i] } else { 0 }
 }
@@ -29,7 +41,21 @@ pub fn count(words: &[u64], i: usize) -> usize {
     word(words, i) as usize
 }
 
-// Word i as a float, a NaN past its end.
+// Word i in two's complement, rounded to an f64 where it is below -2^53.
+pub fn signed(words: &[u64], i: usize) -> i64 {
+    let bits = word(words, i);
+    if bits < 0x8000_0000_0000_0000 {
+        return bits as i64;
+    }
+    let x = -1.0 - std::num::nearest_u64_to_f64(0xffff_ffff_ffff_ffff - bits);
+    if x >= -9223372036854775808.0 {
+        if x < 9223372036854775808.0 {
+            return std::num::truncating_f64_to_i64(x);
+        }
+    }
+    0
+}
+
 pub fn float(floats: &[f64], i: usize) -> f64 {
     if i < floats.len() {
         floats[i]
@@ -38,54 +64,46 @@ pub fn float(floats: &[f64], i: usize) -> f64 {
     }
 }
 
-// The record's words, by their bytes.
-pub fn decode(bytes: &[u8], words: &mut [u64])
-    requires { ⌜ length (now words) ≤ 8192 ⌝ }
-{
-    let mut i = 0;
-    while i < words.len() {
-        words[i] = word_of(bytes, i * 8);
-        i += 1;
+// The position n words after `at`. Far past every record's end 65536 stands for all positions.
+pub fn after(at: usize, n: usize) -> usize {
+    if at < 65536 {
+        if n < 65536 {
+            return at + n;
+        }
     }
+    65536
 }
 
-// The floats of these bits.
-pub fn as_floats(words: &[u64], floats: &mut [f64])
-    requires { ⌜ length (now floats) ≤ length (now words) ⌝ }
+pub fn least(a: usize, b: usize) -> usize
+    ensures { λ r. ⌜ r ≤ b ⌝ }
 {
-    let mut i = 0;
-    while i < floats.len() {
-        floats[i] = floats::from_bits(words[i]);
-        i += 1;
-    }
+    if a < b { a } else { b }
 }
 
-// The end of a part of `n` words from `at` on, within a record of `len`.
-pub fn end(at: usize, n: usize, len: usize) -> usize
-    requires { ⌜ at ≤ len ⌝ }
-    ensures { λ r. ⌜ (at ≤ r) × (r ≤ len) ⌝ }
-{
-    if n < len - at { at + n } else { len }
+// The floats from `start` to `end`, as far as the record has them.
+pub fn part(floats: &[f64], start: usize, end: usize) -> &[f64] {
+    let last = least(end, floats.len());
+    let first = least(start, last);
+    &floats[first..last]
 }
 
-pub fn copy(from: &[f64], to: &mut [f64])
-    requires { ⌜ length (now to) ≤ length (now from) ⌝ }
-{
+// The floats from `at` on, copied for a call to work on.
+pub fn load(floats: &[f64], at: usize, to: &mut [f64]) {
     let mut i = 0;
     while i < to.len() {
-        to[i] = from[i];
+        to[i] = float(floats, after(at, i));
         i += 1;
     }
 }
 
-// The numbers have these bits, a NaN its own.
-pub fn same(numbers: &[f64], bits: &[u64]) -> bool {
-    if numbers.len() != bits.len() {
+// The words from `at` to the record's end are the bits of these numbers, a NaN its own.
+pub fn same(numbers: &[f64], words: &[u64], at: usize) -> bool {
+    if after(at, numbers.len()) != words.len() {
         return false;
     }
     let mut i = 0;
     while i < numbers.len() {
-        if floats::to_bits(numbers[i]) != bits[i] {
+        if floats::to_bits(numbers[i]) != word(words, after(at, i)) {
             return false;
         }
         i += 1;

@@ -18,6 +18,7 @@ ghost use mathlib.Core.List.{[]};
 ghost use Prim.Native.Nat.{_+_, _*_, _<_, _≤_};
 ghost use lib.ListN.{length, replicate, getElem?};
 ghost use Rattle.definitions.specs.Floats.{zeroF};
+ghost use Rattle.definitions.specs.Bins.{below};
 ghost use Rattle.definitions.specs.Points.{square};
 ghost use Rattle.definitions.specs.Blocks.{cell, cellIndex, requiredLength, displaced, distanceSquared};
 ghost use Rattle.definitions.specs.Rules.{refusal, met, outside as outsideOf, overBlock, blockRules, widthRules, precedes as precedesOf, overSets, setRules, pairRules, runRules, step};
@@ -25,7 +26,7 @@ ghost use Rattle.definitions.specs.Run.{place, merged};
 ghost use Rattle.bins.specs.Answers.{indexOf};
 ghost use Rattle.state.specs.Readings.{numberOf};
 ghost use Rattle.reducer.specs.Readings.{theDatum, readingOf, edgesOf, kindOf};
-ghost use Rattle.reducer.specs.Consume.{builtBin};
+ghost use Rattle.reducer.specs.Consume.{builtBins, builtBin};
 ghost use Rattle.edge_table.specs.Tabled.{Tabled, TabledValues};
 ghost use Rattle.parallel_serial.specs.Drive.{addedScratch};
 ghost use Rattle.parallel_serial.proofs.Refusals.{Drivable};
@@ -324,6 +325,26 @@ fn cell_at(comp0: &[f64], comp1: &[f64], comp2: &[f64], weights: &[f64], i: usiz
     }
 }
 
+// The bin of a histogram's value; in regular edges it may be past the bins, which `consume_at` drops.
+fn value_bin(
+    edges: BuiltEdges,
+    values: Table,
+    value_edges: &[f64],
+    value_keys: &[u64],
+    hints: &[u8],
+    value: f64,
+) -> BinIndex
+    requires { ⌜ Tabled edges (now «value_edges») values (now «value_keys») ⌝ }
+    ensures { λ r. ⌜ below (builtBins edges (length (now («value_edges» .entry)))) (indexOf r) ≡ builtBin edges (now («value_edges» .entry)) value ⌝ }
+{
+    match edges {
+        BuiltEdges::Regular(e) => e.bin_index(value),
+        BuiltEdges::Irregular => {
+            edge_table::bin_of(edges, value_edges, value_keys, hints, values, value)
+        }
+    }
+}
+
 // Cell i of a with cell j of b.
 fn add_cells(
     setup: Setup,
@@ -352,17 +373,19 @@ fn add_cells(
     let a = cell_at(a0, a1, a2, aw, i);
     let b = cell_at(b0, b1, b2, bw, j);
     let datum = reducer::datum_of(op, a, b);
-    edge_table::consume(
-        kind,
-        value_edges,
-        value_keys,
-        hints,
-        values,
-        1,
-        0,
-        datum,
-        state,
-    );
+    match kind {
+        Reducer::Comp0Mean => {
+            reducer::consume_at(kind, value_edges.len(), BinIndex::None, 1, 0, datum, state)
+        }
+        Reducer::ComponentSumMean => {
+            reducer::consume_at(kind, value_edges.len(), BinIndex::None, 1, 0, datum, state)
+        }
+        Reducer::ComponentSumHistogram(edges) => {
+            let value = reducer::component_sum(datum);
+            let found = value_bin(edges, values, value_edges, value_keys, hints, value);
+            reducer::consume_at(kind, value_edges.len(), found, 1, 0, datum, state)
+        }
+    }
 }
 
 // n cells of a from i on, each with b's from j on.

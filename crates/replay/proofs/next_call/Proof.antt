@@ -10,89 +10,69 @@ use Rattle.replay.proofs.next_call.Lts as lts
 use Rattle.replay.proofs.call.Reads as call-reads
 use Rattle.replay.proofs.read_head.Reads as read-head-reads
 
--- src/main.rt:68:9
+-- src/main.rt:74:9
 read-head-requires : tie.Need-read-head-requires
 read-head-requires c κs = search needs
 
--- src/main.rt:70:9
+-- src/main.rt:76:9
 returns : tie.Need-returns
 returns c = search needs
 
--- src/main.rt:76:9
+-- src/main.rt:82:9
 returns-2 : tie.Need-returns-2
 returns-2 c = search needs
 
--- src/main.rt:82:16
+-- src/main.rt:88:16
 mul-size : tie.Need-mul-size
 mul-size c = search needs
 
--- src/main.rt:87:9
+-- src/main.rt:93:9
 slice-relend-prefix-call : tie.Need-slice-relend-prefix-call
 slice-relend-prefix-call c = search needs
 
--- src/main.rt:87:9
+-- src/main.rt:93:9
 slice-aggregate-call : tie.Need-slice-aggregate-call
 slice-aggregate-call c = sym (length-take-le _ _ (search needs))
 
--- src/main.rt:88:9
+-- src/main.rt:94:9
 slice-relend-prefix-call-2 : tie.Need-slice-relend-prefix-call-2
 slice-relend-prefix-call-2 c = search needs
 
--- src/main.rt:88:9
+-- src/main.rt:94:9
 slice-aggregate-call-2 : tie.Need-slice-aggregate-call-2
 slice-aggregate-call-2 c = sym (length-take-le _ _ (search needs))
 
--- src/main.rt:89:9
+-- src/main.rt:95:9
 slice-relend-prefix-call-3 : tie.Need-slice-relend-prefix-call-3
 slice-relend-prefix-call-3 c = search needs
 
--- src/main.rt:89:9
+-- src/main.rt:95:9
 slice-aggregate-call-3 : tie.Need-slice-aggregate-call-3
 slice-aggregate-call-3 c = sym (length-take-le _ _ (search needs))
 
--- src/main.rt:84:8
+-- src/main.rt:90:9
 call-requires : tie.Need-call-requires
 call-requires c κs = simp length-take (omega arith, omega arith)
 
--- src/main.rt:92:9
+-- src/main.rt:64:1
 same-length : tie.Need-same-length
 same-length c = search needs
 
--- src/main.rt:92:9
+-- src/main.rt:64:1
 same-length-2 : tie.Need-same-length-2
 same-length-2 c = search needs
 
--- src/main.rt:92:9
+-- src/main.rt:64:1
 same-length-3 : tie.Need-same-length-3
 same-length-3 c = search needs
 
--- src/main.rt:92:9
+-- src/main.rt:64:1
 same-length-4 : tie.Need-same-length-4
 same-length-4 c = search needs
 
--- src/main.rt:92:9
+-- src/main.rt:64:1
 returns-3 : tie.Need-returns-3
 returns-3 c = search needs
-
--- src/main.rt:58:1
-same-length-5 : tie.Need-same-length-5
-same-length-5 c = search needs
-
--- src/main.rt:58:1
-same-length-6 : tie.Need-same-length-6
-same-length-6 c = search needs
-
--- src/main.rt:58:1
-same-length-7 : tie.Need-same-length-7
-same-length-7 c = search needs
-
--- src/main.rt:58:1
-same-length-8 : tie.Need-same-length-8
-same-length-8 c = search needs
-
--- src/main.rt:58:1
-returns-4 : tie.Need-returns-4
-returns-4 c = search needs
 
 pub next-call-spec : {M : Type 1} → statement M
 next-call-spec =
@@ -113,9 +93,4 @@ next-call-spec =
     same-length-2
     same-length-3
     same-length-4
-    returns-3
-    same-length-5
-    same-length-6
-    same-length-7
-    same-length-8
-    returns-4)
+    returns-3)

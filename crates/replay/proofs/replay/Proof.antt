@@ -22,75 +22,75 @@ Inv-loop name fd bytes₀ words₀ floats₀ room₀ calls₀ differ₀ bytes wo
 abbrev μ-loop : tie.MeasureT-loop
 μ-loop name fd bytes₀ words₀ floats₀ room₀ calls₀ differ₀ bytes words floats room calls differ = 100000 - calls
 
--- src/main.rt:126:9
+-- src/main.rt:127:9
 open-read-requires : tie.Need-open-read-requires Inv-loop μ-loop
 open-read-requires c κs = search needs
 
--- src/main.rt:127:21
+-- src/main.rt:128:21
 large-buffer-requires : tie.Need-large-buffer-requires Inv-loop μ-loop
 large-buffer-requires c κs = search needs
 
--- src/main.rt:128:21
+-- src/main.rt:129:21
 word-room-requires : tie.Need-word-room-requires Inv-loop μ-loop
 word-room-requires c κs = search needs
 
--- src/main.rt:129:22
+-- src/main.rt:130:22
 float-room-requires : tie.Need-float-room-requires Inv-loop μ-loop
 float-room-requires c κs = search needs
 
--- src/main.rt:130:20
+-- src/main.rt:131:20
 float-room-requires-2 : tie.Need-float-room-requires-2 Inv-loop μ-loop
 float-room-requires-2 c κs = search needs
 
--- src/main.rt:133:5
+-- src/main.rt:134:5
 loop-holds : tie.Need-loop-holds Inv-loop μ-loop
 loop-holds c = search needs
 
--- src/main.rt:134:34
+-- src/main.rt:135:34
 slice-aggregate-next-call : tie.Need-slice-aggregate-next-call Inv-loop μ-loop
 slice-aggregate-next-call c = search needs
 
--- src/main.rt:134:46
+-- src/main.rt:135:46
 slice-aggregate-next-call-2 : tie.Need-slice-aggregate-next-call-2 Inv-loop μ-loop
 slice-aggregate-next-call-2 c = search needs
 
--- src/main.rt:134:58
+-- src/main.rt:135:58
 slice-aggregate-next-call-3 : tie.Need-slice-aggregate-next-call-3 Inv-loop μ-loop
 slice-aggregate-next-call-3 c = search needs
 
--- src/main.rt:134:71
+-- src/main.rt:135:71
 slice-aggregate-next-call-4 : tie.Need-slice-aggregate-next-call-4 Inv-loop μ-loop
 slice-aggregate-next-call-4 c = search needs
 
--- src/main.rt:134:13
+-- src/main.rt:135:13
 next-call-requires : tie.Need-next-call-requires Inv-loop μ-loop
 next-call-requires c κs = search needs
 
--- src/main.rt:135:9
+-- src/main.rt:136:9
 add-differ : tie.Need-add-differ Inv-loop μ-loop
 add-differ c = search needs
 
--- src/main.rt:139:9
+-- src/main.rt:140:9
 add-calls : tie.Need-add-calls Inv-loop μ-loop
 add-calls c = search needs
 
--- src/main.rt:133:5
+-- src/main.rt:134:5
 loop-less : tie.Need-loop-less Inv-loop μ-loop
 loop-less c = search needs
 
--- src/main.rt:133:5
+-- src/main.rt:134:5
 loop-again : tie.Need-loop-again Inv-loop μ-loop
 loop-again c = search needs
 
--- src/main.rt:141:5
+-- src/main.rt:142:5
 close-requires : tie.Need-close-requires Inv-loop μ-loop
 close-requires c κs = search needs
 
--- src/main.rt:142:5
+-- src/main.rt:143:5
 report-requires : tie.Need-report-requires Inv-loop μ-loop
 report-requires c κs = search needs
 
--- src/main.rt:125:1
+-- src/main.rt:126:1
 returns : tie.Need-returns Inv-loop μ-loop
 returns c = search needs
 

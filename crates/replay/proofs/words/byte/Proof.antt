@@ -5,19 +5,19 @@ use Rattle.replay.proofs.words.byte.Tie as tie
 use Rattle.replay.proofs.words.byte.Reads as reads
 use Rattle.replay.proofs.words.byte.Lts as lts
 
--- src/words.rt:9:22
+-- src/words.rt:10:22
 shared-slice-read-result : tie.Need-shared-slice-read-result
 shared-slice-read-result c = search needs
 
--- src/words.rt:9:22
+-- src/words.rt:10:22
 cast-result : tie.Need-cast-result
 cast-result c = omega (arith, c .shared-slice-known .given (c .before .before .args .k))
 
--- src/words.rt:6:1
+-- src/words.rt:7:1
 returns : tie.Need-returns
 returns c = omega (arith, c .shared-slice-known .given (c .before .before .args .k))
 
--- src/words.rt:6:1
+-- src/words.rt:7:1
 returns-2 : tie.Need-returns-2
 returns-2 c = search needs
 
