@@ -669,7 +669,7 @@ fn key_count(edges: BuiltEdges, len: usize, n: usize) -> usize
     match edges {
         BuiltEdges::Regular(_) => 0,
         BuiltEdges::Irregular => {
-            if n < 3 {
+            if n < 4 {
                 return 0;
             }
             if len < 34 {
