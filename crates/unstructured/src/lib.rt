@@ -989,6 +989,14 @@ fn fill_many(
     );
 }
 
+// Few second points: hints would not pay.
+fn few_points(edges: BuiltEdges, n: usize) -> bool {
+    match edges {
+        BuiltEdges::Regular(_) => n < 33,
+        BuiltEdges::Irregular => n < 20,
+    }
+}
+
 fn few_edges(len: usize, value_len: usize) -> bool {
     if len > 33 {
         return false;
@@ -1022,7 +1030,8 @@ fn fill(
         (pointsIn (now («a_positions» .entry)) (now («a_values» .entry)) (now («a_weights» .entry)) «a_stride» «a_n»)
         (pointsIn (now («b_positions» .entry)) (now («b_values» .entry)) (now («b_weights» .entry)) «b_stride» «b_n») (now (scratch .entry)) ⌝ }
 {
-    if b_n < 33 {
+    let edges = setup.edges;
+    if few_points(edges, b_n) {
         if few_edges(list.len(), value_edges.len()) {
             fill_few(
                 auto,
