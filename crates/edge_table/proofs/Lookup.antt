@@ -35,8 +35,8 @@ use Rattle.reducer.specs.declared.Reducer.the-variants.{Comp0Mean, ComponentSum
 use Rattle.reducer.specs.Readings.{edgesOf, kindOf}
 use Rattle.reducer.specs.Consume.{madeEdges, made, builtBin}
 use Rattle.edge_table.specs.declared.Table.{Table}
-use Rattle.edge_table.specs.Table.{keysTo, keysOf, tableOf, encloses, searched, guessed, outsideOf, guessedBin, searchedBin, elseBin, keyedBin, tableBin, valueTableOf}
-use Rattle.edge_table.specs.Tabled.{Usable, EndsOf, Keys, Tabled, UsableValues, TabledValues}
+use Rattle.edge_table.specs.Table.{keysTo, keysOf, tableOf, holds, halved, halvedBin, encloses, searched, guessed, outsideOf, guessedBin, searchedBin, elseBin, keyedBin, tableBin, valueTableOf}
+use Rattle.edge_table.specs.Tabled.{Searchable, Usable, EndsOf, Keys, Tabled, UsableValues, TabledValues}
 
 -- ---- a value outside the ends has no bin
 low-none : (a b c : Bool) (o : Option ℕ) → b ≡ true → none ≡ cond (a || b || c) none o
@@ -62,10 +62,10 @@ module _ (es : List Float) (first last x : Float) where
   bin-high Irregular ends h = ap (below (length es - 1)) (high-none (isNan x) (lt x (at es 0)) (le (at es (length es - 1)) x) _ (ap (λ (y : Float). le y x) (sym (ends .1)) ∙ h))
 
 -- ---- a bin whose keys enclose the value's is the value's
-abbrev outside : List Float → Float → Bool
+abbrev pub outside : List Float → Float → Bool
 outside es x = isNan x || lt x (at es 0) || le (at es (length es - 1)) x
 
-and-true : (a b : Bool) → (a && b) ≡ true → (a ≡ true) × (b ≡ true)
+pub and-true : (a b : Bool) → (a && b) ≡ true → (a ≡ true) × (b ≡ true)
 and-true true true h = (refl, refl)
 and-true true false h = absurd (true≢false (sym h))
 and-true false b h = absurd (true≢false (sym h))
@@ -78,6 +78,49 @@ read-within keys i k h = go (ltb i (length keys)) refl
     go true e = ltb-true i (length keys) e
     go false e = absurd (omega (arith, h, List·getD-eq-default keys 0 (ltb-false i (length keys) e)))
 
+module _ (es : List Float) (u : Searchable es) (x : Float) (f : fits binary64 x ≡ true) (g : ℕ) (within : g < length es - 1) (lower : orderKey (at es g) ≤ orderKey x) (upper : orderKey x < orderKey (at es (g + 1))) where
+  below-all : (i : ℕ) → i < g + 1 → notAfter (at es i) x ≡ true
+  below-all i h =
+      let s = sorted es (u .held) (u .finite) (u .increasing) i g (omega arith) (omega arith) in
+      key-order (at es i) x (u .held i) (subst T (sym f) tt) ∙ le-leb (orderKey (at es i)) (orderKey x) (omega arith)
+
+  above-all : (i : ℕ) → g + 1 ≤ i → i < length es → notAfter (at es i) x ≡ false
+  above-all i h m =
+      let s = sorted es (u .held) (u .finite) (u .increasing) (g + 1) i h m in
+      key-order (at es i) x (u .held i) (subst T (sym f) tt) ∙ lt-leb (orderKey (at es i)) (orderKey x) (omega arith)
+
+  found-edge : some g ≡ lastEdge es x (length es)
+  found-edge =
+      let e : g ≡ g + 1 - 1 = omega arith in
+      ap some e ∙ halves-at es x (g + 1) (g + 1) (le-refl (g + 1)) (le-refl (g + 1)) (omega arith) above-all below-all (λ z. absurd (omega (arith, z)))
+
+  pub enclosed-bin : outside es x ≡ false → some g ≡ builtBin Irregular es x
+  unfolding builtBin irregularIndex
+  enclosed-bin v = rw (v, ← found-edge, lt-ltb g (length es - 1) within)
+
+-- a bin that was tested, or what follows
+pub tested : (t : Bool) (g : ℕ) (o b : Option ℕ) → (t ≡ true → some g ≡ b) → o ≡ b → cond t (some g) o ≡ b
+tested true g o b h e = h refl
+tested false g o b h e = e
+
+not-true : (a : Bool) → not a ≡ true → a ≡ false
+not-true false h = refl
+not-true true h = absurd (true≢false (sym h))
+
+-- a number is not outside the ends
+module _ (es : List Float) (u : Searchable es) (x : Float) (f : fits binary64 x ≡ true) (inside : isNan x ≡ false → outside es x ≡ false) where
+  pub held-bin : (g : ℕ) → holds es x g ≡ true → some g ≡ builtBin Irregular es x
+  unfolding holds
+  held-bin g c =
+      let p = and-true (not (isNan x) && ltb g (length es - 1) && leb (orderKey (at es g)) (orderKey x)) (ltb (orderKey x) (orderKey (at es (g + 1)))) c in
+      let q = and-true (not (isNan x) && ltb g (length es - 1)) (leb (orderKey (at es g)) (orderKey x)) (p .0) in
+      let r = and-true (not (isNan x)) (ltb g (length es - 1)) (q .0) in
+      enclosed-bin es u x f g (ltb-true _ _ (r .1)) (leb-true _ _ (q .1)) (ltb-true _ _ (p .1)) (inside (not-true (isNan x) (r .0)))
+
+  pub halved-found : halvedBin es x ≡ builtBin Irregular es x
+  unfolding halvedBin
+  halved-found = tested (holds es x (halved es x)) (halved es x) _ _ (held-bin (halved es x)) refl
+
 module _ (es : List Float) (x : Float) (f : fits binary64 x ≡ true) (table : Table) (keys : List ℕ) (t : Tabled Irregular es table keys)
     (g : ℕ) (c : encloses (length es - 1) keys (orderKey x) g ≡ true) where
   tests : (g < length es - 1) × (getD keys g 0 ≤ orderKey x) × (orderKey x < getD keys (g + 1) 0)
@@ -87,29 +130,12 @@ module _ (es : List Float) (x : Float) (f : fits binary64 x ≡ true) (table : T
       let q = and-true (ltb g (length es - 1)) (leb (getD keys g 0) (orderKey x)) (p .0) in
       (ltb-true _ _ (q .0), leb-true _ _ (q .1), ltb-true _ _ (p .1))
 
-  read : g + 1 < length keys
-  read = read-within keys (g + 1) (orderKey x) (tests .2)
-
-  below-all : (i : ℕ) → i < g + 1 → notAfter (at es i) x ≡ true
-  below-all i h =
-      let s = sorted es (t .usable .held) (t .usable .finite) (t .usable .increasing) i g (omega arith) (omega (arith, tests .0)) in
-      let k = t .keyed g (omega (arith, read)) in
-      key-order (at es i) x (t .usable .held i) (subst T (sym f) tt) ∙ le-leb (orderKey (at es i)) (orderKey x) (omega (arith, s, k, tests .1))
-
-  above-all : (i : ℕ) → g + 1 ≤ i → i < length es → notAfter (at es i) x ≡ false
-  above-all i h m =
-      let s = sorted es (t .usable .held) (t .usable .finite) (t .usable .increasing) (g + 1) i h m in
-      let k = t .keyed (g + 1) read in
-      key-order (at es i) x (t .usable .held i) (subst T (sym f) tt) ∙ lt-leb (orderKey (at es i)) (orderKey x) (omega (arith, s, k, tests .2))
-
-  found-edge : some g ≡ lastEdge es x (length es)
-  found-edge =
-      let e : g ≡ g + 1 - 1 = omega arith in
-      ap some e ∙ halves-at es x (g + 1) (g + 1) (le-refl (g + 1)) (le-refl (g + 1)) (omega (arith, tests .0)) above-all below-all (λ z. absurd (omega (arith, z)))
-
   found-bin-is : outside es x ≡ false → some g ≡ builtBin Irregular es x
-  unfolding builtBin irregularIndex
-  found-bin-is v = rw (v, ← found-edge, lt-ltb g (length es - 1) (tests .0))
+  found-bin-is v =
+      let r = read-within keys (g + 1) (orderKey x) (tests .2) in
+      let k = t .keyed g (omega (arith, r)) in
+      let l = t .keyed (g + 1) r in
+      enclosed-bin es (t .usable) x f g (tests .0) (omega (arith, tests, k)) (omega (arith, tests, l)) v
 
 -- ---- any guess is right or refused
 module _ (es : List Float) (x : Float) (f : fits binary64 x ≡ true) (table : Table) (keys : List ℕ) (t : Tabled Irregular es table keys) where
@@ -135,9 +161,9 @@ module _ (es : List Float) (x : Float) (f : fits binary64 x ≡ true) (table : T
       g : ℕ
       g = searched (length es - 1) keys (orderKey x)
 
-      go : (b : Bool) → outside es x ≡ b → cond b none (cond (encloses (length es - 1) keys (orderKey x) g) (some g) (builtBin Irregular es x)) ≡ builtBin Irregular es x
+      go : (b : Bool) → outside es x ≡ b → cond b none (cond (encloses (length es - 1) keys (orderKey x) g) (some g) (halvedBin es x)) ≡ builtBin Irregular es x
       go true v = none-outside v
-      go false v = tried v g _ refl
+      go false v = tried v g _ (halved-found es (t .usable) x f (λ n. v))
 
   guessed-else : (hints : List ℕ) (o : Option ℕ) → o ≡ builtBin Irregular es x → elseBin (guessedBin (length es) keys hints table x) o ≡ builtBin Irregular es x
   unfolding guessedBin

@@ -24,7 +24,7 @@ use Rattle.reducer.specs.declared.Reducer.{Reducer}
 use Rattle.reducer.specs.declared.Reducer.the-variants.{ComponentSumHistogram}
 use Rattle.reducer.specs.Consume.{builtBin}
 use Rattle.edge_table.specs.declared.Table.{Table}
-use Rattle.edge_table.specs.Table.{keysTo, keysOf, tableOf, placeOf, endOf, spread, binHinted, hintsOf, bit, rise, among32, searched, encloses, nudged, guessed, outsideOf, guessedBin, searchedBin, keyedBin, tableBin, valueTableOf}
+use Rattle.edge_table.specs.Table.{keysTo, keysOf, tableOf, placeOf, endOf, spread, binHinted, hintsOf, bit, rise, among32, searched, encloses, halvedBin, nudged, guessed, outsideOf, guessedBin, searchedBin, keyedBin, tableBin, valueTableOf}
 
 -- ---- keys
 module _ (list : List Float) (keys : List ℕ) where
@@ -231,9 +231,9 @@ module _ (keys : List ℕ) (table : Table) (x : Float) (r : Bool) (q : r ≡ out
       unfolding searchedBin
       searched-right t = rw (← q, a, ← l, ← e, ← v, ← w, t)
 
-      pub searched-plain : (o : Option ℕ) → u ≡ false → o ≡ builtBin Irregular list x → o ≡ searchedBin list keys table x
+      pub searched-edges : (o : Option ℕ) → u ≡ false → o ≡ halvedBin list x → o ≡ searchedBin list keys table x
       unfolding searchedBin
-      searched-plain o t z = rw (← q, a, ← l, ← e, ← v, ← w, t) z
+      searched-edges o t z = rw (← q, a, ← l, ← e, ← v, ← w, t) z
 
 -- r is the answer of `guessed_bin`
 module _ (list : List Float) (keys hints : List ℕ) (table : Table) (x : Float) (r : BinIndex) (q : indexOf r ≡ guessedBin (length list) keys hints table x) where

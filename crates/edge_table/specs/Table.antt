@@ -1,13 +1,16 @@
 -- Lookups in edges by a table: what the functions return for any keys, hints and table, also ones of other edges.
 use mathlib.Core.Option.{Option, none, some}
-use mathlib.Core.List.{List}
-use mathlib.Core.Bool.{Bool, true, false, cond, _&&_, _||_}
+use mathlib.Core.List.{List, [], _∷_, map}
+use mathlib.Core.Bool.{Bool, true, false, cond, not, _&&_, _||_}
 use Prim.Native.Nat.{ℕ, zero, suc, _+_, _-_, _*_, _%_}
-use lib.Dec.{leb, ltb}
+use lib.Dec.{leb, ltb, eqb}
 use lib.ListN.{length, getD, set}
 use lib.Ieee.{Float, binary64, add, sub, mul, div, lt, le, isNan, ofBits, toBits}
 use Rattle.definitions.specs.Lists.{at}
+use Rattle.definitions.specs.Floats.{asUsize}
+use Rattle.definitions.specs.Bins.{below}
 use Rattle.floats.specs.Order.{orderKey}
+use Rattle.bins.specs.declared.RegularBinEdges.{RegularBinEdges}
 use Rattle.reducer.specs.declared.BuiltEdges.{BuiltEdges}
 use Rattle.reducer.specs.declared.BuiltEdges.the-variants.{Regular, Irregular}
 use Rattle.reducer.specs.declared.Reducer.{Reducer}
@@ -82,6 +85,26 @@ nudged keys k h = cond (ltb (h + 1) (length keys)) (rise keys k 1 h) h
 unfoldable pub guessed : List ℕ → List ℕ → Table → Float → ℕ
 guessed keys hints table x = nudged keys (orderKey x) (getD hints (placeOf table x) 0)
 
+-- x is a number, and the keys of bin h's edges enclose its own
+unfoldable pub holds : List Float → Float → ℕ → Bool
+holds list x h = not (isNan x) && ltb h (length list - 1) && leb (orderKey (at list h)) (orderKey x) && ltb (orderKey x) (orderKey (at list (h + 1)))
+
+-- w up from b where that edge is not above x
+unfoldable pub climb : List Float → Float → ℕ → ℕ → ℕ
+climb list x w b = b + w * bit (le (at list (b + w)) x)
+
+-- of the 32 bins from b on
+unfoldable pub climb32 : List Float → Float → ℕ → ℕ
+climb32 list x b = climb list x 1 (climb list x 2 (climb list x 4 (climb list x 8 (climb list x 16 b))))
+
+-- the search by halves in at most 256 bins
+unfoldable pub halved : List Float → Float → ℕ
+halved list x = cond (leb (length list) 33) (climb32 list x 0) (climb32 list x (climb list x 32 (climb list x 64 (climb list x 128 0))))
+
+-- what the search by halves finds, where it holds the value; else the plain lookup
+unfoldable pub halvedBin : List Float → Float → Option ℕ
+halvedBin list x = cond (holds list x (halved list x)) (some (halved list x)) (builtBin Irregular list x)
+
 unfoldable pub outsideOf : Table → Float → Bool
 outsideOf table x = isNan x || lt x (table .first) || le (table .last) x
 
@@ -90,11 +113,11 @@ unfoldable pub guessedBin : ℕ → List ℕ → List ℕ → Table → Float �
 guessedBin m keys hints table x =
     cond (outsideOf table x) none (cond (encloses (m - 1) keys (orderKey x) (guessed keys hints table x)) (some (guessed keys hints table x)) none)
 
--- what the search finds, where its keys do; else the plain lookup
+-- what the search in the keys finds, where its keys do; else the search in the edges
 unfoldable pub searchedBin : List Float → List ℕ → Table → Float → Option ℕ
 searchedBin list keys table x =
     cond (outsideOf table x) none
-    (cond (encloses (length list - 1) keys (orderKey x) (searched (length list - 1) keys (orderKey x))) (some (searched (length list - 1) keys (orderKey x))) (builtBin Irregular list x))
+    (cond (encloses (length list - 1) keys (orderKey x) (searched (length list - 1) keys (orderKey x))) (some (searched (length list - 1) keys (orderKey x))) (halvedBin list x))
 
 abbrev pub elseBin : Option ℕ → Option ℕ → Option ℕ
 elseBin (some b) o = some b
@@ -106,6 +129,54 @@ keyedBin list keys hints table x = elseBin (guessedBin (length list) keys hints 
 unfoldable pub tableBin : BuiltEdges → List Float → List ℕ → List ℕ → Table → Float → Option ℕ
 tableBin (Regular e) list keys hints table x = builtBin (Regular e) list x
 tableBin Irregular list keys hints table x = keyedBin list keys hints table x
+
+-- ---- lookups of many values, which are not outside the ends
+-- the bin, or a number past every bin
+abbrev pub numberOr : Option ℕ → ℕ
+numberOr none = 4096
+numberOr (some b) = b
+
+abbrev pub quotient : RegularBinEdges → Float → Float
+quotient e x = div binary64 (sub binary64 x (e .min)) (e .«bin_size»)
+
+-- strictly between the edges of bin h
+unfoldable pub between : List Float → Float → ℕ → Bool
+between list x h = ltb h (length list - 1) && lt (at list h) x && lt x (at list (h + 1))
+
+-- h or the bin after it, where it holds the value
+unfoldable pub nearBin : List Float → Float → ℕ → Option ℕ
+nearBin list x h = cond (holds list x h) (some h) (cond (holds list x (h + 1)) (some (h + 1)) (halvedBin list x))
+
+unfoldable pub hintedBin : List Float → List ℕ → Table → Float → Option ℕ
+hintedBin list hints table x = cond (between list x (getD hints (placeOf table x) 0)) (some (getD hints (placeOf table x) 0)) (nearBin list x (getD hints (placeOf table x) 0))
+
+unfoldable pub insideBin : BuiltEdges → List Float → List ℕ → Table → Float → Option ℕ
+insideBin (Regular e) list hints table x = below (e .«n_bins») (some (asUsize (quotient e x)))
+insideBin Irregular list hints table x = hintedBin list hints table x
+
+unfoldable pub alike : List Float → List Float → List ℕ → Bool
+alike x room found = eqb (length room) (length x) && eqb (length found) (length x)
+
+-- the bin of each value; as they were where the lengths differ
+unfoldable pub foundOf : BuiltEdges → List Float → List ℕ → Table → List Float → List Float → List ℕ → List ℕ
+foundOf edges list hints table x room found = cond (alike x room found) (map (λ v. numberOr (insideBin edges list hints table v)) x) found
+
+-- regular edges leave the quotients there
+unfoldable pub roomOf : BuiltEdges → List Float → List ℕ → List Float → List Float
+roomOf (Regular e) x found room = cond (alike x room found) (map (quotient e) x) room
+roomOf Irregular x found room = room
+
+-- ---- values outside the ends
+unfoldable pub kept : Table → Float → ℕ → ℕ
+kept table x b = cond (lt x (table .first) || le (table .last) x) 4096 b
+
+unfoldable pub dropped : Table → List Float → List ℕ → List ℕ
+dropped table [] found = found
+dropped table (v ∷ x) [] = []
+dropped table (v ∷ x) (b ∷ found) = kept table v b ∷ dropped table x found
+
+unfoldable pub droppedOf : Table → List Float → List ℕ → List ℕ
+droppedOf table x found = cond (eqb (length found) (length x)) (dropped table x found) found
 
 -- ---- value edges, which a histogram has
 abbrev pub noTable : Table

@@ -1,14 +1,19 @@
 // Lookups in edges by a table: keys and hints are made once, and each lookup tries a hint's bin, then a search by halves. A guess is tested, so nothing rests on it.
 use bins::BinIndex;
+use bins::RegularBinEdges;
 use reducer::BuiltEdges;
 use reducer::Reducer;
 ghost use mathlib.Core.Path.{_≡_};
+ghost use mathlib.Core.Option.{some};
+ghost use mathlib.Core.List.{map};
 ghost use Prim.Native.Nat.{_+_, _-_, _≤_, _<_};
 ghost use lib.ListN.{length, getD};
 ghost use Rattle.definitions.specs.Lists.{at};
+ghost use Rattle.definitions.specs.Floats.{asUsize};
+ghost use Rattle.definitions.specs.Bins.{below};
 ghost use Rattle.floats.specs.Order.{orderKey};
 ghost use Rattle.bins.specs.Answers.{indexOf};
-ghost use Rattle.edge_table.specs.Table.{keysOf, tableOf, placeOf, endOf, spread, binHinted, hintsOf, rise, among32, searched, encloses, nudged, guessed, outsideOf, guessedBin, searchedBin, keyedBin, tableBin, noTable, valueTableOf};
+ghost use Rattle.edge_table.specs.Table.{keysOf, tableOf, placeOf, endOf, spread, binHinted, hintsOf, rise, among32, searched, encloses, nudged, guessed, outsideOf, guessedBin, searchedBin, keyedBin, tableBin, noTable, valueTableOf, numberOr, quotient, between, holds, climb, climb32, halved, halvedBin, nearBin, hintedBin, foundOf, roomOf, kept, dropped, droppedOf};
 
 // Ends of the edges, and places of hints a unit of the value.
 pub struct Table {
@@ -207,6 +212,66 @@ fn guess(keys: &[u64], hints: &[u8], table: Table, value: f64) -> usize
     nudge(keys, key_of(value), h)
 }
 
+fn is_held(list: &[f64], x: f64, h: usize) -> bool
+    ensures { λ r. ⌜ r ≡ holds (now (list .entry)) x h ⌝ }
+{
+    if floats::is_nan(x) {
+        return false;
+    }
+    let n = reducer::n_bins(BuiltEdges::Irregular, list.len());
+    if h >= n {
+        return false;
+    }
+    let key = key_of(x);
+    if key_of(list[h]) > key {
+        return false;
+    }
+    key < key_of(list[h + 1])
+}
+
+// Without a branch on the value.
+fn climb_by(list: &[f64], x: f64, w: usize, b: usize) -> usize
+    requires { ⌜ b + w ≤ 255 ⌝ }
+    ensures { λ r. ⌜ (r ≡ climb (now (list .entry)) x w b) × (r ≤ b + w) ⌝ }
+{
+    let edge = edge_at(list, b + w);
+    b + w * ((edge <= x) as usize)
+}
+
+fn climb_32(list: &[f64], x: f64, b: usize) -> usize
+    requires { ⌜ b + 31 ≤ 255 ⌝ }
+    ensures { λ r. ⌜ r ≡ climb32 (now (list .entry)) x b ⌝ }
+{
+    let c = climb_by(list, x, 16, b);
+    let d = climb_by(list, x, 8, c);
+    let e = climb_by(list, x, 4, d);
+    let f = climb_by(list, x, 2, e);
+    climb_by(list, x, 1, f)
+}
+
+// In the edges themselves: few values do not pay for keys.
+fn halve(list: &[f64], x: f64) -> usize
+    ensures { λ r. ⌜ r ≡ halved (now (list .entry)) x ⌝ }
+{
+    if list.len() <= 33 {
+        return climb_32(list, x, 0);
+    }
+    let c = climb_by(list, x, 128, 0);
+    let d = climb_by(list, x, 64, c);
+    let e = climb_by(list, x, 32, d);
+    climb_32(list, x, e)
+}
+
+fn halved_bin(list: &[f64], x: f64) -> BinIndex
+    ensures { λ r. ⌜ indexOf r ≡ halvedBin (now (list .entry)) x ⌝ }
+{
+    let h = halve(list, x);
+    if is_held(list, x, h) {
+        return BinIndex::At(h);
+    }
+    reducer::bin_of(BuiltEdges::Irregular, list, x)
+}
+
 // Whether the value has no bin: a NaN, or outside the ends.
 fn is_outside(table: Table, value: f64) -> bool
     ensures { λ r. ⌜ r ≡ outsideOf table value ⌝ }
@@ -241,7 +306,7 @@ pub fn guessed_bin(
     BinIndex::None
 }
 
-// The bin in irregular edges by the search, where it is right.
+// The bin in irregular edges by the search in the keys, where it is right; else by that in the edges.
 pub fn searched_bin(list: &[f64], keys: &[u64], table: Table, value: f64) -> BinIndex
     ensures { λ r. ⌜ indexOf r ≡ searchedBin (now (list .entry)) (now (keys .entry)) table value ⌝ }
 {
@@ -254,7 +319,7 @@ pub fn searched_bin(list: &[f64], keys: &[u64], table: Table, value: f64) -> Bin
     if is_enclosed(n, keys, key, b) {
         return BinIndex::At(b);
     }
-    reducer::bin_of(BuiltEdges::Irregular, list, value)
+    halved_bin(list, value)
 }
 
 // The bin in irregular edges: the guess, then the search.
@@ -282,6 +347,179 @@ pub fn bin_of(
         BuiltEdges::Regular(_) => reducer::bin_of(edges, list, value),
         BuiltEdges::Irregular => keyed_bin(list, keys, hints, table, value),
     }
+}
+
+// ---- lookups of many values
+
+fn is_between(list: &[f64], x: f64, h: usize) -> bool
+    ensures { λ r. ⌜ r ≡ between (now (list .entry)) x h ⌝ }
+{
+    let n = reducer::n_bins(BuiltEdges::Irregular, list.len());
+    if h >= n {
+        return false;
+    }
+    if list[h] < x {
+        return x < list[h + 1];
+    }
+    false
+}
+
+fn number_of(bin: BinIndex) -> usize
+    ensures { λ r. ⌜ r ≡ numberOr (indexOf bin) ⌝ }
+{
+    match bin {
+        BinIndex::At(b) => b,
+        BinIndex::None => 4096,
+    }
+}
+
+fn near_bin(list: &[f64], x: f64, h: usize) -> usize
+    requires { ⌜ h ≤ 255 ⌝ }
+    ensures { λ r. ⌜ r ≡ numberOr (nearBin (now (list .entry)) x h) ⌝ }
+{
+    if is_held(list, x, h) {
+        return h;
+    }
+    if is_held(list, x, h + 1) {
+        return h + 1;
+    }
+    number_of(halved_bin(list, x))
+}
+
+fn hinted_bin(list: &[f64], hints: &[u8], table: Table, x: f64) -> usize
+    ensures { λ r. ⌜ r ≡ numberOr (hintedBin (now (list .entry)) (now (hints .entry)) table x) ⌝ }
+{
+    let h = hint_at(hints, table, x);
+    if is_between(list, x, h) {
+        return h;
+    }
+    near_bin(list, x, h)
+}
+
+// The same, with the way that most values take in front.
+fn quick_bin(list: &[f64], hints: &[u8], table: Table, x: f64) -> usize
+    ensures { λ r. ⌜ r ≡ numberOr (hintedBin (now (list .entry)) (now (hints .entry)) table x) ⌝ }
+{
+    let n = reducer::n_bins(BuiltEdges::Irregular, list.len());
+    let place = (x - table.first) * table.scale + 4503599627370496.0;
+    if !floats::is_nan(place) {
+        let q = (f64::to_bits(place) % 4096) as usize;
+        if q < hints.len() {
+            let h = hints[q] as usize;
+            if h < n {
+                if list[h] < x {
+                    if x < list[h + 1] {
+                        return h;
+                    }
+                }
+            }
+        }
+    }
+    hinted_bin(list, hints, table, x)
+}
+
+fn hinted_bins(list: &[f64], hints: &[u8], table: Table, x: &[f64], found: &mut [usize])
+    requires { ⌜ length (now found) ≡ length (now x) ⌝ }
+    ensures { λ _. ⌜ now (found .exit) ≡ map (λ v. numberOr (hintedBin (now (list .entry)) (now (hints .entry)) table v)) (now (x .entry)) ⌝ }
+{
+    let mut q = 0;
+    while q < x.len() {
+        found[q] = quick_bin(list, hints, table, x[q]);
+        q += 1;
+    }
+}
+
+// A loop of its own: the divisions go several at a time.
+fn quotients(edges: RegularBinEdges, x: &[f64], room: &mut [f64])
+    requires { ⌜ length (now room) ≡ length (now x) ⌝ }
+    ensures { λ _. ⌜ now (room .exit) ≡ map (quotient edges) (now (x .entry)) ⌝ }
+{
+    let min = edges.min;
+    let size = edges.bin_size;
+    let mut q = 0;
+    while q < x.len() {
+        room[q] = (x[q] - min) / size;
+        q += 1;
+    }
+}
+
+fn cut_to_bin(n_bins: usize, x: f64) -> usize
+    ensures { λ r. ⌜ r ≡ numberOr (below «n_bins» (some (asUsize x))) ⌝ }
+{
+    let b = floats::as_usize(x);
+    if b < n_bins { b } else { 4096 }
+}
+
+fn cut_to_bins(n_bins: usize, x: &[f64], found: &mut [usize])
+    requires { ⌜ length (now found) ≡ length (now x) ⌝ }
+    ensures { λ _. ⌜ now (found .exit) ≡ map (λ v. numberOr (below «n_bins» (some (asUsize v)))) (now (x .entry)) ⌝ }
+{
+    let mut q = 0;
+    while q < x.len() {
+        found[q] = cut_to_bin(n_bins, x[q]);
+        q += 1;
+    }
+}
+
+// The bin of each value that is not outside the ends; 4096 where there is none. Nothing is done where the lengths differ.
+pub fn bins_of(
+    edges: BuiltEdges,
+    list: &[f64],
+    hints: &[u8],
+    table: Table,
+    x: &[f64],
+    room: &mut [f64],
+    found: &mut [usize],
+)
+    ensures { λ _. ⌜ now (room .exit) ≡ roomOf edges (now (x .entry)) (now (found .entry)) (now (room .entry)) ⌝ }
+    ensures { λ _. ⌜ now (found .exit) ≡ foundOf edges (now (list .entry)) (now (hints .entry)) table (now (x .entry)) (now (room .entry)) (now (found .entry)) ⌝ }
+{
+    if room.len() != x.len() {
+        return;
+    }
+    if found.len() != x.len() {
+        return;
+    }
+    match edges {
+        BuiltEdges::Regular(e) => {
+            quotients(e, x, &mut *room);
+            cut_to_bins(e.n_bins, &*room, found);
+        }
+        BuiltEdges::Irregular => hinted_bins(list, hints, table, x, found),
+    }
+}
+
+fn keep_inside(table: Table, x: f64, b: usize) -> usize
+    ensures { λ r. ⌜ r ≡ kept table x b ⌝ }
+{
+    if x < table.first {
+        return 4096;
+    }
+    if table.last <= x {
+        return 4096;
+    }
+    b
+}
+
+fn drop_all(table: Table, x: &[f64], found: &mut [usize])
+    requires { ⌜ length (now found) ≡ length (now x) ⌝ }
+    ensures { λ _. ⌜ now (found .exit) ≡ dropped table (now (x .entry)) (now (found .entry)) ⌝ }
+{
+    let mut q = 0;
+    while q < x.len() {
+        found[q] = keep_inside(table, x[q], found[q]);
+        q += 1;
+    }
+}
+
+// 4096 in place of the bin of each value outside the ends. Nothing is done where the lengths differ.
+pub fn drop_outside(table: Table, x: &[f64], found: &mut [usize])
+    ensures { λ _. ⌜ now (found .exit) ≡ droppedOf table (now (x .entry)) (now (found .entry)) ⌝ }
+{
+    if found.len() != x.len() {
+        return;
+    }
+    drop_all(table, x, found);
 }
 
 // ---- value edges

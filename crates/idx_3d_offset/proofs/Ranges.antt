@@ -43,8 +43,8 @@ module _ (d : ℤ) (f : SFits w64 d) (h : ltZ (toZ w64 (ofZ w64 d)) (pos 0) ≡ 
   pub less-cast : T (nonNeg (toZ w64 (ofZ w64 (negsuc 0 -ℤ toZ w64 (ofZ w64 d))))) × Fits w64 (natAbs (toZ w64 (ofZ w64 (negsuc 0 -ℤ toZ w64 (ofZ w64 d)))))
   less-cast = rw less-back (tt, record { fits = omega (arith, f .sfits) })
 
-  pub more-fits : Fits w64 (natAbs (toZ w64 (ofZ w64 (negsuc 0 -ℤ toZ w64 (ofZ w64 d)))) + 1)
-  more-fits = rw less-back (record { fits = omega (arith, f .sfits) })
+  pub less-small : natAbs (toZ w64 (ofZ w64 (negsuc 0 -ℤ toZ w64 (ofZ w64 d)))) < 2 ^ 63
+  less-small = rw less-back (f .sfits)
 
   pub start-a-below : natAbs (toZ w64 (ofZ w64 (negsuc 0 -ℤ toZ w64 (ofZ w64 d)))) + 1 ≡ startA d
   start-a-below = rw less-back (lower .1)

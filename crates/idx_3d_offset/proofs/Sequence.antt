@@ -19,6 +19,10 @@ use Rattle.idx_3d_offset.specs.declared.Axes.{Axes}
 use Rattle.idx_3d_offset.specs.Offsets.{those, axisFits, walkable, crossSeq, autoSeq, Within, Reach, Axis, Walkable, Counts, axisLen, crossLen, middleOf, offsetNumber}
 use Rattle.idx_3d_offset.proofs.Table.{number, table, centre, after-centre, centre-twice, table-some, table-length, those-past, none-past, fold-those}
 
+-- at most 127 on each axis
+pub most-product : (m n : ℕ) → m ≤ 16_129 → n ≤ 127 → m * n ≤ 2_097_152
+most-product m n h k = omega (arith, mul-le-mul h k)
+
 -- ---- by the axes
 fits-axis : (n : ℕ) → Axis n → axisFits n ≡ true
 fits-axis n h = let e : n ≡ 0 → ⊥ = omega arith in λ t. not (ne-eqb n 0 e t) && le-leb n 64 (h .most) t
@@ -48,7 +52,6 @@ module _ (a b : Axes) (ha : Walkable a) (hb : Walkable b) where
   pub cross-number : (i : ℕ) → i < crossLen a b → some (offsetNumber a b i) ≡ getElem? (crossSeq a b) i
   cross-number i h = sym (ap (λ (l : List Idx3DOffset). getElem? l i) cross-table ∙ table-some (offsetNumber a b) 0 (crossLen a b) i h ∙ ap (λ (j : ℕ). some (offsetNumber a b j)) (zero-add i))
 
-  -- at most 127 on each axis
   pub part-most : axisLen (a .z) (b .z) * axisLen (a .y) (b .y) ≤ 16_129
   part-most =
       let z : axisLen (a .z) (b .z) ≤ 127 = omega arith in
@@ -57,9 +60,7 @@ module _ (a b : Axes) (ha : Walkable a) (hb : Walkable b) where
 
   pub cross-most : crossLen a b ≤ 2_097_152
   unfolding crossLen
-  cross-most =
-      let x : axisLen (a .x) (b .x) ≤ 127 = omega arith in
-      omega (arith, mul-le-mul part-most x)
+  cross-most = most-product (axisLen (a .z) (b .z) * axisLen (a .y) (b .y)) (axisLen (a .x) (b .x)) part-most (omega arith)
 
   -- what the code counted
   pub cross-counts : (z : ℤ) → Counts z (axisLen (a .z) (b .z) * axisLen (a .y) (b .y) * axisLen (a .x) (b .x)) → Counts z (length (crossSeq a b))

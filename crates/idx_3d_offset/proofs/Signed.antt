@@ -37,6 +37,10 @@ sub-is m (suc n) = refl
 sub-mag : (m n : ℕ) → mag (subℕ m n) ≤ m + n
 sub-mag m n = sub-cases (λ z. mag z ≤ m + n) m n (λ h. omega arith) (λ h. omega arith)
 
+sum-mag : (m : ℕ) (z : ℤ) → mag (pos m +ℤ z) ≤ m + suc (mag z)
+sum-mag m (pos n) = omega arith
+sum-mag m (negsuc n) = sub-mag m (suc n)
+
 module _ (w : Width) (wide : T (ltb 4_194_304 (2 ^ hbits w))) where
   small : (z : ℤ) → mag z ≤ 4_194_304 → SFits w z
   small z h = record { sfits = omega (arith, ltb→lt 4_194_304 (2 ^ hbits w) wide) }
@@ -46,6 +50,10 @@ module _ (w : Width) (wide : T (ltb 4_194_304 (2 ^ hbits w))) where
 
   pub natural : (n : ℕ) → n ≤ 2_097_152 → Counts (toZ w n) n
   natural n h = held {z = pos n} (literal n h)
+
+  -- with a literal of either sign
+  pub shifted-fits : {x : ℤ} {m : ℕ} → Counts x m → (z : ℤ) → mag z < 2_097_152 → SFits w (x +ℤ z)
+  shifted-fits {x} {m} p z h = rw (p .is) (small (pos m +ℤ z) (omega (arith, sum-mag m z, p .most)))
 
   module _ {x y : ℤ} {m n : ℕ} (p : Counts x m) (q : Counts y n) where
     pub sum-fits : m + n ≤ 2_097_152 → SFits w (x +ℤ y)

@@ -1,14 +1,15 @@
--- A mean's block in locals: the two numbers, summed apart and stored, are the state with the block added. Assumes nothing.
-use mathlib.Core.Path.{_≡_, refl, sym, ap, _∙_}
+-- A mean's cells in locals: the two numbers, summed apart, are the state that the cells leave. Assumes nothing.
+use mathlib.Core.Path.{_≡_, refl, sym, ap, subst, _∙_}
 use mathlib.Core.Bool.{Bool, true, false, true≢false}
 use mathlib.Core.List.{List, [], _∷_}
 use Prim.Native.Nat.{ℕ, zero, suc, _+_, _-_, _*_, _<_, _≤_}
 use native.Mathlib.Nat.{sub-zero}
 use native.Mathlib.Omega.{arith}
-use lib.Dec.{leb}
 use lib.ListN.{length}
 use lib.Ieee.{Float, binary64, add, mul}
-use borrow.Author.Tests.{leb-true}
+use mathlib.Core.Option.{some}
+use Rattle.definitions.specs.Blocks as blocks
+use Rattle.definitions.specs.Blocks.{CartesianBlock, cellIndex, count}
 use Rattle.definitions.specs.Reducer as definitions
 use Rattle.definitions.specs.Reducer.{datumOf, componentSum}
 use Rattle.laws.proofs.Loops.{loopLeft}
@@ -18,12 +19,15 @@ use Rattle.reducer.specs.declared.Reducer.{Reducer}
 use Rattle.reducer.specs.declared.Reducer.the-variants.{Comp0Mean, ComponentSumMean, ComponentSumHistogram}
 use Rattle.reducer.specs.Readings.{opOf, theDatum, readingOf}
 use Rattle.reducer.specs.Consume as consume
-use Rattle.reducer.specs.Consume.{consumed}
+use Rattle.reducer.specs.Consume.{reducerSize, consumed}
 use Rattle.reducer.proofs.Placewise.{room}
+use Rattle.idx_3d_offset.specs.declared.Axes.{Axes}
+use Rattle.idx_3d_offset.specs.Offsets.{Reach}
 use Rattle.twopoint_cartesian.specs.declared.Setup.{Setup}
 use Rattle.twopoint_cartesian.specs.declared.Mean.{Mean}
-use Rattle.twopoint_cartesian.specs.Cells.{Fields, readingIn, cellsAdded, rowAdded, planeAdded, blockAdded, scalarOf, isMean, meanAdded, meanIn, withMean, cellsInMean, rowInMean, planeInMean, blockInMean}
+use Rattle.twopoint_cartesian.specs.Cells.{Fields, readingIn, cellsAdded, rowAdded, planeAdded, blockAdded, scalarOf, isMean, meanAdded, noMean, meanState, cellsInMean, rowInMean, planeInMean, blockInMean, fieldsIn, firstA, firstB, overlapOf, offsetMean, offsetCells, fresh, Ready, Room, stateMerged, mergedIn}
 use Rattle.twopoint_cartesian.proofs.Loops.{left-turn, left-done}
+use Rattle.twopoint_cartesian.proofs.Cells.{offset-cells}
 
 -- ---- each way through the code
 module _ (k : Reducer) (d : definitions.Datum) (x : Float) (h : x ≡ componentSum d) where
@@ -32,21 +36,6 @@ module _ (k : Reducer) (d : definitions.Datum) (x : Float) (h : x ≡ componentS
 
   pub scalar-histogram : (e : BuiltEdges) → k ≡ ComponentSumHistogram e → x ≡ scalarOf k d
   scalar-histogram e t = rw t h
-
-module _ (k : Reducer) (len : ℕ) where
-  pub is-comp0 : k ≡ Comp0Mean → leb 2 len ≡ isMean k len
-  is-comp0 t = rw t
-
-  pub is-sum : k ≡ ComponentSumMean → leb 2 len ≡ isMean k len
-  is-sum t = rw t
-
-pub mean-room : (k : Reducer) (len : ℕ) (r : Bool) → r ≡ isMean k len → r ≡ true → 2 ≤ len
-mean-room k len r e t = go k (sym e ∙ t)
-  where
-    go : (k : Reducer) → isMean k len ≡ true → 2 ≤ len
-    go Comp0Mean h = leb-true 2 len h
-    go ComponentSumMean h = leb-true 2 len h
-    go (ComponentSumHistogram e) h = absurd (true≢false (sym h))
 
 -- ---- the loops, turn by turn
 module _ (setup : Setup) (a b : Fields) where
@@ -99,49 +88,78 @@ module _ (setup : Setup) (a b : Fields) where
       unfolding blockInMean
       mean-block-done = left-done (λ z m. planeInMean setup a b (i + z * ta) (j + z * tb) sa sb n 0 k m) l e z m
 
--- ---- stored
--- a loop over stored values is the stored loop
+-- ---- as a state
+-- a loop over states is the loop's state
 through : {S M : Type 0} (f : ℕ → S → S) (g : ℕ → M → M) (w : M → S) → ((x : ℕ) (m : M) → f x (w m) ≡ w (g x m)) → (x n : ℕ) (m : M) → loopLeft f x n (w m) ≡ w (loopLeft g x n m)
 through f g w h x zero m = refl
 through f g w h x (suc n) m = ap (loopLeft f (suc x) n) (h x m) ∙ through f g w h (suc x) n (g x m)
 
--- a datum into a state whose first numbers are a mean's
-consumed-mean : (k : Reducer) (list : List Float) (d : definitions.Datum) (m : Mean) (s : List Float) → isMean k (length s) ≡ true → 2 ≤ length s → consumed k list 1 0 d (withMean m s) ≡ withMean (meanAdded k d m) s
+-- a datum into a mean's state
+consumed-mean : (k : Reducer) (list : List Float) (d : definitions.Datum) (m : Mean) → isMean k ≡ true → consumed k list 1 0 d (meanState m) ≡ meanState (meanAdded k d m)
 unfolding consume.consumed consume.consumedAt
-consumed-mean k list d m [] e h = absurd (omega arith)
-consumed-mean k list d m (x ∷ []) e h = absurd (omega arith)
-consumed-mean Comp0Mean list d m (x ∷ y ∷ s) e h = rw (room 1 2 0 (length (m .total ∷ m .weight ∷ s)) (omega arith) (omega arith) (omega arith) (omega arith))
-consumed-mean ComponentSumMean list d m (x ∷ y ∷ s) e h = rw (room 1 2 0 (length (m .total ∷ m .weight ∷ s)) (omega arith) (omega arith) (omega arith) (omega arith))
-consumed-mean (ComponentSumHistogram edges) list d m (x ∷ y ∷ s) e h = absurd (true≢false (sym e))
+consumed-mean Comp0Mean list d m e = rw (room 1 2 0 2 (omega arith) (omega arith) (omega arith) (omega arith))
+consumed-mean ComponentSumMean list d m e = rw (room 1 2 0 2 (omega arith) (omega arith) (omega arith) (omega arith))
+consumed-mean (ComponentSumHistogram edges) list d m e = absurd (true≢false (sym e))
 
-as-found : (s : List Float) → 2 ≤ length s → withMean (meanIn s) s ≡ s
-as-found [] h = absurd (omega arith)
-as-found (x ∷ []) h = absurd (omega arith)
-as-found (x ∷ y ∷ s) h = refl
+module _ (setup : Setup) (valueEdges : List Float) (e : isMean (setup .reducer) ≡ true) where
+  module _ (a b : Fields) where
+    mean-cells : (i j : ℕ) (m : Mean) → cellsAdded setup valueEdges a b i j (meanState m) ≡ meanState (cellsInMean setup a b i j m)
+    unfolding cellsAdded cellsInMean
+    mean-cells i j m = consumed-mean (setup .reducer) valueEdges (datumOf (opOf (setup .op)) (readingIn a i) (readingIn b j)) m e
 
-module _ (setup : Setup) (valueEdges : List Float) (a b : Fields) (s : List Float) (r : Bool) (e : r ≡ isMean (setup .reducer) (length s)) (t : r ≡ true) where
-  abbrev stored : Mean → List Float
-  stored m = withMean m s
+    mean-row : (i j n : ℕ) (m : Mean) → rowAdded setup valueEdges a b i j 0 n (meanState m) ≡ meanState (rowInMean setup a b i j 0 n m)
+    unfolding rowAdded rowInMean
+    mean-row i j n m = through (λ x s. cellsAdded setup valueEdges a b (i + x) (j + x) s) (λ x m. cellsInMean setup a b (i + x) (j + x) m) meanState (λ x m. mean-cells (i + x) (j + x) m) 0 n m
 
-  mean-cells : (i j : ℕ) (m : Mean) → cellsAdded setup valueEdges a b i j (stored m) ≡ stored (cellsInMean setup a b i j m)
-  unfolding cellsAdded cellsInMean
-  mean-cells i j m = consumed-mean (setup .reducer) valueEdges (datumOf (opOf (setup .op)) (readingIn a i) (readingIn b j)) m s (sym e ∙ t) (mean-room (setup .reducer) (length s) r e t)
+    mean-plane : (i j sa sb n k : ℕ) (m : Mean) → planeAdded setup valueEdges a b i j sa sb n 0 k (meanState m) ≡ meanState (planeInMean setup a b i j sa sb n 0 k m)
+    unfolding planeAdded planeInMean
+    mean-plane i j sa sb n k m =
+        through (λ y s. rowAdded setup valueEdges a b (i + y * sa) (j + y * sb) 0 n s) (λ y m. rowInMean setup a b (i + y * sa) (j + y * sb) 0 n m) meanState (λ y m. mean-row (i + y * sa) (j + y * sb) n m) 0 k m
 
-  mean-row : (i j n : ℕ) (m : Mean) → rowAdded setup valueEdges a b i j 0 n (stored m) ≡ stored (rowInMean setup a b i j 0 n m)
-  unfolding rowAdded rowInMean
-  mean-row i j n m = through (λ x s. cellsAdded setup valueEdges a b (i + x) (j + x) s) (λ x m. cellsInMean setup a b (i + x) (j + x) m) stored (λ x m. mean-cells (i + x) (j + x) m) 0 n m
+    mean-block : (i j sa sb ta tb n k l : ℕ) (m : Mean) → blockAdded setup valueEdges a b i j sa sb ta tb n k 0 l (meanState m) ≡ meanState (blockInMean setup a b i j sa sb ta tb n k 0 l m)
+    unfolding blockAdded blockInMean
+    mean-block i j sa sb ta tb n k l m =
+        through (λ z s. planeAdded setup valueEdges a b (i + z * ta) (j + z * tb) sa sb n 0 k s) (λ z m. planeInMean setup a b (i + z * ta) (j + z * tb) sa sb n 0 k m) meanState
+        (λ z m. mean-plane (i + z * ta) (j + z * tb) sa sb n k m) 0 l m
 
-  mean-plane : (i j sa sb n k : ℕ) (m : Mean) → planeAdded setup valueEdges a b i j sa sb n 0 k (stored m) ≡ stored (planeInMean setup a b i j sa sb n 0 k m)
-  unfolding planeAdded planeInMean
-  mean-plane i j sa sb n k m =
-      through (λ y s. rowAdded setup valueEdges a b (i + y * sa) (j + y * sb) 0 n s) (λ y m. rowInMean setup a b (i + y * sa) (j + y * sb) 0 n m) stored (λ y m. mean-row (i + y * sa) (j + y * sb) n m) 0 k m
+  cells-mean : (a b : CartesianBlock) → a .sx ≡ 1 → b .sx ≡ 1 → (d : blocks.Idx3DOffset) → offsetCells setup valueEdges a b d (fresh 2) ≡ meanState (offsetMean setup a b d)
+  unfolding fresh offsetMean
+  cells-mean a b ea eb d =
+      sym (offset-cells setup valueEdges a b ea eb d (fresh 2))
+      ∙ mean-block (fieldsIn a) (fieldsIn b) (cellIndex a (firstA d)) (cellIndex b (firstB d)) (a .sy) (b .sy) (a .sz) (b .sz) (count (a .nx) (b .nx) (d .dx)) (count (a .ny) (b .ny) (d .dy)) (count (a .nz) (b .nz) (d .dz)) noMean
 
-  mean-block : (i j sa sb ta tb n k l : ℕ) (m : Mean) → blockAdded setup valueEdges a b i j sa sb ta tb n k 0 l (stored m) ≡ stored (blockInMean setup a b i j sa sb ta tb n k 0 l m)
-  unfolding blockAdded blockInMean
-  mean-block i j sa sb ta tb n k l m =
-      through (λ z s. planeAdded setup valueEdges a b (i + z * ta) (j + z * tb) sa sb n 0 k s) (λ z m. planeInMean setup a b (i + z * ta) (j + z * tb) sa sb n 0 k m) stored
-      (λ z m. mean-plane (i + z * ta) (j + z * tb) sa sb n k m) 0 l m
+  mean-merged : (a b : CartesianBlock) → Ready a → Ready b → (d : blocks.Idx3DOffset) (bin size : ℕ) (s q : List Float) → size ≡ 2 → q ≡ stateMerged (setup .«n_states») bin (meanState (offsetMean setup a b d)) 0 2 s
+      → q ≡ mergedIn (some bin) (setup .«n_states») (offsetCells setup valueEdges a b d (fresh size)) s
+  mean-merged a b ha hb d bin size s q z h =
+      h ∙ (λ t. mergedIn (some bin) (setup .«n_states») (sym (cells-mean a b (ha .x-stride) (hb .x-stride) d) t) s) ∙ ap (λ (k : ℕ). mergedIn (some bin) (setup .«n_states») (offsetCells setup valueEdges a b d (fresh k)) s) (sym z)
 
-  pub block-stored : (i j sa sb ta tb n k l : ℕ) (q : List Float) → q ≡ withMean (blockInMean setup a b i j sa sb ta tb n k 0 l (meanIn s)) s → q ≡ blockAdded setup valueEdges a b i j sa sb ta tb n k 0 l s
-  block-stored i j sa sb ta tb n k l q h =
-      h ∙ sym (mean-block i j sa sb ta tb n k l (meanIn s)) ∙ ap (blockAdded setup valueEdges a b i j sa sb ta tb n k 0 l) (as-found s (mean-room (setup .reducer) (length s) r e t))
+-- by the arm
+module _ (setup : Setup) (valueEdges : List Float) (a b : CartesianBlock) (ha : Ready a) (hb : Ready b) (d : blocks.Idx3DOffset) (bin size : ℕ) (s q : List Float)
+    (z : size ≡ reducerSize (setup .reducer) (length valueEdges)) where
+  pub comp0-merged : setup .reducer ≡ Comp0Mean → q ≡ stateMerged (setup .«n_states») bin (meanState (offsetMean setup a b d)) 0 2 s → q ≡ mergedIn (some bin) (setup .«n_states») (offsetCells setup valueEdges a b d (fresh size)) s
+  comp0-merged t = mean-merged setup valueEdges (ap isMean t) a b ha hb d bin size s q (z ∙ ap (λ (k : Reducer). reducerSize k (length valueEdges)) t)
+
+  pub sum-merged : setup .reducer ≡ ComponentSumMean → q ≡ stateMerged (setup .«n_states») bin (meanState (offsetMean setup a b d)) 0 2 s → q ≡ mergedIn (some bin) (setup .«n_states») (offsetCells setup valueEdges a b d (fresh size)) s
+  sum-merged t = mean-merged setup valueEdges (ap isMean t) a b ha hb d bin size s q (z ∙ ap (λ (k : Reducer). reducerSize k (length valueEdges)) t)
+
+-- a mean's room
+module _ (k : Reducer) (m n bin size len : ℕ) (z : size ≡ reducerSize k m) (r : Room n bin size len) where
+  pub comp0-room : k ≡ Comp0Mean → Room n bin 2 len
+  comp0-room t = rw (sym (z ∙ ap (λ (k : Reducer). reducerSize k m) t)) r
+
+  pub sum-room : k ≡ ComponentSumMean → Room n bin 2 len
+  sum-room t = rw (sym (z ∙ ap (λ (k : Reducer). reducerSize k m) t)) r
+
+-- ---- one offset, by what the calls answered
+pub mean-done-cells : (setup : Setup) (a b : CartesianBlock) (d : blocks.Idx3DOffset) (i j : ℕ) (n : Axes) (q : Mean) → i ≡ cellIndex a (firstA d) → j ≡ cellIndex b (firstB d) → n ≡ overlapOf a b d
+    → q ≡ blockInMean setup (fieldsIn a) (fieldsIn b) i j (a .sy) (b .sy) (a .sz) (b .sz) (n .x) (n .y) 0 (n .z) noMean → q ≡ offsetMean setup a b d
+unfolding offsetMean
+mean-done-cells setup a b d i j n q ei ej en e = e ∙ λ t. blockInMean setup (fieldsIn a) (fieldsIn b) (ei t) (ej t) (a .sy) (b .sy) (a .sz) (b .sz) (en t .x) (en t .y) 0 (en t .z) noMean
+
+-- in auto the second block is the first
+module _ (auto : Bool) (a b : CartesianBlock) (t : auto ≡ true) (same : auto ≡ true → a ≡ b) (d : blocks.Idx3DOffset) where
+  pub auto-mean : (setup : Setup) (q : Mean) → q ≡ offsetMean setup a a d → q ≡ offsetMean setup a b d
+  auto-mean setup q e = e ∙ ap (λ (c : CartesianBlock). offsetMean setup a c d) (same t)
+
+  pub auto-reached : Reach (record { z = a .nz; y = a .ny; x = a .nx }) (record { z = b .nz; y = b .ny; x = b .nx }) d → Reach (record { z = a .nz; y = a .ny; x = a .nx }) (record { z = a .nz; y = a .ny; x = a .nx }) d
+  auto-reached r = subst (λ (c : CartesianBlock). Reach (record { z = a .nz; y = a .ny; x = a .nx }) (record { z = c .nz; y = c .ny; x = c .nx }) d) (sym (same t)) r

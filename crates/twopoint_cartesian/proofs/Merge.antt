@@ -25,7 +25,8 @@ use Rattle.bins.specs.Answers.{indexOf}
 use Rattle.reducer.proofs.Placewise.{consumed-length}
 use Rattle.reducer.specs.Consume.{builtBins, builtFind, builtBin}
 use Rattle.twopoint_cartesian.specs.declared.Setup.{Setup}
-use Rattle.twopoint_cartesian.specs.Cells.{fresh, cellsAdded, pairStep, stateMerged, Room, Roomy, mergedIn, offsetCells, offsetAdded}
+use Rattle.twopoint_cartesian.specs.declared.Mean.{Mean}
+use Rattle.twopoint_cartesian.specs.Cells.{fresh, cellsAdded, pairStep, stateMerged, Room, Roomy, mergedIn, meanState, offsetCells, offsetAdded}
 use Rattle.twopoint_cartesian.proofs.Loops.{left-turn, left-done}
 
 -- ---- zeros
@@ -97,19 +98,39 @@ module _ (setup : Setup) (valueEdges : List Float) (a b : CartesianBlock) where
   unfolding offsetCells fresh
   cells-length d n = fold-length (pairStep setup valueEdges a b) pair-length (cellPairs a b d) (replicate n (zeroF false)) ∙ length-replicate n (zeroF false)
 
+pub bin-room : (setup : Setup) (list valueEdges : List Float) (size : ℕ) (x : Float) (r : BinIndex) → indexOf r ≡ builtBin (setup .edges) list x → (bin len : ℕ) → r ≡ At bin → Roomy setup list valueEdges size len
+    → Room (setup .«n_states») bin size len
+unfolding builtBin
+bin-room setup list valueEdges size x r h bin len e k =
+    let l = below-found (builtBins (setup .edges) (length list)) (builtFind (setup .edges) list x) bin (sym h ∙ ap indexOf e) in
+    record { few = k .few; small = k .small; state = omega (arith, k .states); pack = k .pack }
+
 module _ (setup : Setup) (list valueEdges : List Float) (width : blocks.CellWidth) (a b : CartesianBlock) (size : ℕ) (d : blocks.Idx3DOffset)
     (r : BinIndex) (h : indexOf r ≡ builtBin (setup .edges) list (distanceSquared width a b d)) where
-  pub bin-room : (bin len : ℕ) (state : List Float) → r ≡ At bin → state ≡ offsetCells setup valueEdges a b d (fresh size) → Roomy setup list size len → Room (setup .«n_states») bin (length state) len
-  unfolding builtBin
-  bin-room bin len state e f k =
-      let l = below-found (builtBins (setup .edges) (length list)) (builtFind (setup .edges) list (distanceSquared width a b d)) bin (sym h ∙ ap indexOf e) in
-      rw (ap length f ∙ cells-length setup valueEdges a b d size) (record { few = k .few; small = k .small; state = omega (arith, k .states); pack = k .pack })
-
-  pub offset-kept : (bin : ℕ) (state s q : List Float) → r ≡ At bin → state ≡ offsetCells setup valueEdges a b d (fresh size) → q ≡ stateMerged (setup .«n_states») bin state 0 (length state) s
-      → q ≡ offsetAdded setup list valueEdges width a b size d s
+  pub offset-kept : (bin : ℕ) (s q : List Float) → r ≡ At bin → q ≡ mergedIn (some bin) (setup .«n_states») (offsetCells setup valueEdges a b d (fresh size)) s → q ≡ offsetAdded setup list valueEdges width a b size d s
   unfolding offsetAdded
-  offset-kept bin state s q e f g = g ∙ (λ t. mergedIn (some bin) (setup .«n_states») (f t) s) ∙ λ t. mergedIn ((sym (ap indexOf e) ∙ h) t) (setup .«n_states») (offsetCells setup valueEdges a b d (fresh size)) s
+  offset-kept bin s q e g = g ∙ λ t. mergedIn ((sym (ap indexOf e) ∙ h) t) (setup .«n_states») (offsetCells setup valueEdges a b d (fresh size)) s
 
   pub offset-dropped : (s : List Float) → r ≡ None → s ≡ offsetAdded setup list valueEdges width a b size d s
   unfolding offsetAdded
   offset-dropped s e = λ t. mergedIn ((sym (ap indexOf e) ∙ h) t) (setup .«n_states») (offsetCells setup valueEdges a b d (fresh size)) s
+
+-- a state as it was summed
+pub state-room : (setup : Setup) (valueEdges : List Float) (a b : CartesianBlock) (d : blocks.Idx3DOffset) (n bin size len : ℕ) (state : List Float) → state ≡ offsetCells setup valueEdges a b d (fresh size) → Room n bin size len
+    → Room n bin (length state) len
+state-room setup valueEdges a b d n bin size len state f r = rw (ap length f ∙ cells-length setup valueEdges a b d size) r
+
+pub state-merged : (n bin : ℕ) (state t s q : List Float) → state ≡ t → q ≡ stateMerged n bin state 0 (length state) s → q ≡ mergedIn (some bin) n t s
+state-merged n bin state t s q f g = g ∙ ap (λ (x : List Float). mergedIn (some bin) n x s) f
+
+-- ---- a mean's two numbers
+module _ (n bin len k : ℕ) (r : Room n bin 2 len) where
+  pub mean-place : (e : ℕ) → e < 2 → k ≡ place n e bin → k < len
+  mean-place e h q = merge-place n bin 2 len e k r h q
+
+pub mean-into : (n bin : ℕ) (m z : Mean) (s q : List Float) → m ≡ z → q ≡ stateMerged n bin (meanState m) 0 2 s → q ≡ stateMerged n bin (meanState z) 0 2 s
+mean-into n bin m z s q e h = h ∙ ap (λ (x : Mean). stateMerged n bin (meanState x) 0 2 s) e
+
+pub mean-stored : (n bin : ℕ) (m : Mean) (s : List Float) (j k : ℕ) → j ≡ place n 0 bin → k ≡ place n 1 bin → bump k (m .weight) (bump j (m .total) s) ≡ stateMerged n bin (meanState m) 0 2 s
+unfolding stateMerged
+mean-stored n bin m s j k ej ek = λ t. bump (ek t) (m .weight) (bump (ej t) (m .total) s)

@@ -28,8 +28,8 @@ use Rattle.reducer.specs.declared.PairOperation.{PairOperation}
 use Rattle.reducer.specs.declared.BuiltEdges.{BuiltEdges}
 use Rattle.reducer.specs.declared.Reducer.{Reducer}
 use Rattle.reducer.specs.Readings.{opOf, edgesOf, kindOf}
-use Rattle.reducer.specs.Consume.{builtBins}
-use Rattle.reducer.proofs.Placewise.{made-bins}
+use Rattle.reducer.specs.Consume.{builtBins, reducerSize}
+use Rattle.reducer.proofs.Placewise.{made-bins, made-size}
 use Rattle.edge_table.proofs.Lookup.{usable-made, usable-values-made}
 use Rattle.parallel_serial.specs.declared.Shape.{Shape}
 use Rattle.parallel_serial.specs.Drive as drive
@@ -37,7 +37,6 @@ use Rattle.parallel_serial.specs.Drive.{zeroPack, addedScratch, builtEdges, bui
 use Rattle.parallel_serial.proofs.Refusals.{run-number, run-limit, Drivable, Accepted, accepted}
 use Rattle.parallel_serial.proofs.Built.{built-made, reducer-made}
 use Rattle.parallel_serial.proofs.Scratch.{lent-length, lent-zeros, added-merged, step-refused, step-done, run-refused, run-done}
-use Rattle.idx_3d_offset.specs.declared.Axes.{Axes}
 use Rattle.idx_3d_offset.specs.Offsets.{autoSeq}
 use Rattle.idx_3d_offset.proofs.Sequence.{cross-all, auto-fold}
 use Rattle.twopoint_cartesian.specs.declared.Block.{Block}
@@ -138,19 +137,20 @@ module _ (e : definitions.Edges) (k : kinds.Kind) (shape : Shape) (len : ℕ) (d
   unfolding zeroState
   state-lent z h = sym (length-take-le (shape .«state_size») z (omega (arith, d .size, d .small, ap length h, length-replicate 256 (zeroF false))))
 
-pub same-axes : (auto : Bool) (a b : CartesianBlock) → cond auto a b ≡ b → auto ≡ true → _≡_ {A = Axes} (record { z = a .nz; y = a .ny; x = a .nx }) (record { z = b .nz; y = b .ny; x = b .nx })
-same-axes auto a b s t = ap (λ (c : CartesianBlock). record { z = c .nz; y = c .ny; x = c .nx }) (rw t at s)
+pub same-blocks : (auto : Bool) (a b : CartesianBlock) → cond auto a b ≡ b → auto ≡ true → a ≡ b
+same-blocks auto a b s t = rw t at s
 
 pub roomy : (edges : Edges) (list : List Float) (kind : Kind) (valueEdges : List Float) (op : PairOperation) (shape : Shape) (len : ℕ) (be : BuiltEdges) (rd : Reducer) (y z : List Float)
-    → Drivable (edgesOf edges list) (kindOf kind valueEdges) shape len → be ≡ builtEdges edges → y ≡ zeroState → z ≡ zeroPack
-    → Roomy (record { op = op; edges = be; reducer = rd; «n_states» = shape .«n_states» }) list (length (take (shape .«state_size») y)) (length (take (shape .«n_states» * shape .«state_size») z))
-roomy edges list kind valueEdges op shape len be rd y z d eb ey ez =
+    → Drivable (edgesOf edges list) (kindOf kind valueEdges) shape len → be ≡ builtEdges edges → rd ≡ builtReducer kind → y ≡ zeroState → z ≡ zeroPack
+    → Roomy (record { op = op; edges = be; reducer = rd; «n_states» = shape .«n_states» }) list valueEdges (length (take (shape .«state_size») y)) (length (take (shape .«n_states» * shape .«state_size») z))
+roomy edges list kind valueEdges op shape len be rd y z d eb er ey ez =
     let n = state-lent (edgesOf edges list) (kindOf kind valueEdges) shape len d y ey in
     let u = used-lent (edgesOf edges list) (kindOf kind valueEdges) shape len d z ez in
     rw (sym n, sym u) (record {
       states = d .states ∙ sym (made-bins list edges) ∙ ap (λ (x : BuiltEdges). builtBins x (length list)) (sym (eb ∙ built-made edges list (d .edges)));
       few = omega (arith, d .states, d .few);
       small = omega (arith, d .size, d .small);
+      sized = d .size ∙ sym (made-size valueEdges kind) ∙ ap (λ (x : Reducer). reducerSize x (length valueEdges)) (sym (er ∙ reducer-made kind valueEdges (d .values)));
       pack = omega arith;
     })
 

@@ -66,5 +66,8 @@ module _ (setup : Setup) (list valueEdges : List Float) (width : blocks.CellWidt
     unfolding offsetsAdded
     walk-done h inv = ap (λ (m : List blocks.Idx3DOffset). foldPack (offsetAdded setup list valueEdges width a b size) m s) (sym (drop-of-length-le l h)) ∙ inv
 
-pub roomy-same : (setup : Setup) (list : List Float) (k l m n : ℕ) → k ≡ l → m ≡ n → Roomy setup list l n → Roomy setup list k m
-roomy-same setup list k l m n p q r = rw (p, q) r
+pub roomy-same : (setup : Setup) (list valueEdges : List Float) (k l m n : ℕ) → k ≡ l → m ≡ n → Roomy setup list valueEdges l n → Roomy setup list valueEdges k m
+roomy-same setup list valueEdges k l m n p q r = rw (p, q) r
+
+pub axes-same : (auto : Bool) (a b : CartesianBlock) → (auto ≡ true → a ≡ b) → auto ≡ true → _≡_ {A = Axes} (record { z = a .nz; y = a .ny; x = a .nx }) (record { z = b .nz; y = b .ny; x = b .nx })
+axes-same auto a b s t = ap (λ (c : CartesianBlock). record { z = c .nz; y = c .ny; x = c .nx }) (s t)

@@ -1,11 +1,10 @@
 -- What the private functions ask and promise: the cells of an offset into a state of their own, its merge into its bin, and the walk over the offsets, as updates of stores.
 use mathlib.Core.Path.{_≡_}
 use mathlib.Core.Option.{Option, none, some}
-use mathlib.Core.List.{List}
+use mathlib.Core.List.{List, [], _∷_}
 use mathlib.Core.Bool.{Bool, true, false}
 use Prim.Native.Nat.{ℕ, _+_, _-_, _*_, _≤_, _<_}
-use lib.Dec.{leb}
-use lib.ListN.{length, set, replicate, getElem?}
+use lib.ListN.{length, replicate, getElem?}
 use lib.IntN.{ℤ, natAbs}
 use lib.Ieee.{Float, binary64, add, mul}
 use Rattle.definitions.specs.Lists.{at, upto}
@@ -20,7 +19,7 @@ use Rattle.laws.proofs.Places.{foldPack, bump}
 use Rattle.reducer.specs.declared.Reducer.{Reducer}
 use Rattle.reducer.specs.declared.Reducer.the-variants.{Comp0Mean, ComponentSumMean, ComponentSumHistogram}
 use Rattle.reducer.specs.Readings.{opOf}
-use Rattle.reducer.specs.Consume.{builtBins, builtBin, consumed}
+use Rattle.reducer.specs.Consume.{builtBins, builtBin, reducerSize, consumed}
 use Rattle.edge_table.specs.Tabled.{Usable, Tabled, UsableValues, TabledValues}
 use Rattle.idx_3d_offset.specs.declared.Axes.{Axes}
 use Rattle.idx_3d_offset.specs.Offsets.{Walkable, crossSeq, autoSeq}
@@ -122,19 +121,20 @@ scalarOf Comp0Mean d = d .c0
 scalarOf ComponentSumMean d = componentSum d
 scalarOf (ComponentSumHistogram e) d = componentSum d
 
-abbrev pub isMean : Reducer → ℕ → Bool
-isMean Comp0Mean len = leb 2 len
-isMean ComponentSumMean len = leb 2 len
-isMean (ComponentSumHistogram e) len = false
+abbrev pub isMean : Reducer → Bool
+isMean Comp0Mean = true
+isMean ComponentSumMean = true
+isMean (ComponentSumHistogram e) = false
 
 abbrev pub meanAdded : Reducer → Datum → Mean → Mean
 meanAdded k d m = record { total = add binary64 (m .total) (mul binary64 (scalarOf k d) (d .weight)); weight = add binary64 (m .weight) (d .weight) }
 
-abbrev pub meanIn : List Float → Mean
-meanIn s = record { total = at s 0; weight = at s 1 }
+abbrev pub noMean : Mean
+noMean = record { total = zeroF false; weight = zeroF false }
 
-abbrev pub withMean : Mean → List Float → List Float
-withMean m s = set (set s 0 (m .total)) 1 (m .weight)
+-- as a state
+abbrev pub meanState : Mean → List Float
+meanState m = m .total ∷ m .weight ∷ []
 
 module _ (setup : Setup) (a b : Fields) where
   unfoldable pub cellsInMean : ℕ → ℕ → Mean → Mean
@@ -161,6 +161,11 @@ firstB d = cell (startB (d .dz)) (startB (d .dy)) (startB (d .dx))
 
 abbrev pub overlapOf : CartesianBlock → CartesianBlock → Blocks.Idx3DOffset → Axes
 overlapOf a b d = record { z = count (a .nz) (b .nz) (d .dz); y = count (a .ny) (b .ny) (d .dy); x = count (a .nx) (b .nx) (d .dx) }
+
+-- the mean of the cells at the offset d
+unfoldable pub offsetMean : Setup → CartesianBlock → CartesianBlock → Blocks.Idx3DOffset → Mean
+offsetMean setup a b d =
+    blockInMean setup (fieldsIn a) (fieldsIn b) (cellIndex a (firstA d)) (cellIndex b (firstB d)) (a .sy) (b .sy) (a .sz) (b .sz) (count (a .nx) (b .nx) (d .dx)) (count (a .ny) (b .ny) (d .dy)) 0 (count (a .nz) (b .nz) (d .dz)) noMean
 
 module _ (setup : Setup) (valueEdges : List Float) (a b : CartesianBlock) where
   unfoldable pub pairStep : Cell × Cell → List Float → List Float
@@ -199,11 +204,12 @@ pub record Looked (setup : Setup) (list valueEdges : List Float) (tables : Table
   pub distances : Tabled (setup .edges) list (tables .distances) keys
   pub values : TabledValues (setup .reducer) valueEdges (tables .values) valueKeys
 
--- the setup's states are its bins, and there is room for them
-pub record Roomy (setup : Setup) (list : List Float) (size len : ℕ) : Type 0 where
+-- the setup's states are its bins, each of the kind's size, and there is room for them
+pub record Roomy (setup : Setup) (list valueEdges : List Float) (size len : ℕ) : Type 0 where
   pub states : setup .«n_states» ≡ builtBins (setup .edges) (length list)
   pub few : setup .«n_states» ≤ 256
   pub small : size ≤ 256
+  pub sized : size ≡ reducerSize (setup .reducer) (length valueEdges)
   pub pack : setup .«n_states» * size ≤ len
 
 abbrev pub mergedIn : Option ℕ → ℕ → List Float → List Float → List Float

@@ -15,6 +15,7 @@ use state::Outcome;
 ghost use mathlib.Core.Path.{_≡_};
 ghost use mathlib.Core.Bool.{true, false, cond};
 ghost use mathlib.Core.List.{[]};
+ghost use mathlib.Core.Option.{some};
 ghost use Prim.Native.Nat.{_+_, _*_, _<_, _≤_};
 ghost use lib.ListN.{length, replicate, getElem?};
 ghost use Rattle.definitions.specs.Floats.{zeroF};
@@ -26,14 +27,14 @@ ghost use Rattle.definitions.specs.Run.{place, merged};
 ghost use Rattle.bins.specs.Answers.{indexOf};
 ghost use Rattle.state.specs.Readings.{numberOf};
 ghost use Rattle.reducer.specs.Readings.{theDatum, readingOf, edgesOf, kindOf};
-ghost use Rattle.reducer.specs.Consume.{builtBins, builtBin};
+ghost use Rattle.reducer.specs.Consume.{builtBins, builtBin, reducerSize};
 ghost use Rattle.edge_table.specs.Tabled.{Tabled, TabledValues};
 ghost use Rattle.parallel_serial.specs.Drive.{addedScratch};
 ghost use Rattle.parallel_serial.proofs.Refusals.{Drivable};
 ghost use Rattle.idx_3d_offset.specs.Offsets.{idxOf, offsetOf, Reach};
 ghost use Rattle.twopoint_cartesian.specs.Readings.{blockOf, widthOf, axesOf, setsRun, autoRun, crossRun};
 ghost use Rattle.twopoint_cartesian.specs.Refusals.{setsFor, setsNumber, noWidth, numbersOver, lengthOver, globalsOver, Limited};
-ghost use Rattle.twopoint_cartesian.specs.Cells.{fields, readingIn, Holds, RowFits, PlaneFits, BlockFits, Near, AllNear, Ready, Placed, cellsAdded, rowAdded, scalarOf, cellsInMean, rowInMean, isMean, meanIn, withMean, planeInMean, blockInMean, Looked, Findable, planeAdded, blockAdded, firstA, firstB, overlapOf, offsetCells, zeroState, fresh, Room, Roomy, stateMerged, offsetAdded, numberAdded, offsetsAdded, seqFor};
+ghost use Rattle.twopoint_cartesian.specs.Cells.{fields, readingIn, Holds, RowFits, PlaneFits, BlockFits, Near, AllNear, Ready, Placed, cellsAdded, rowAdded, scalarOf, cellsInMean, rowInMean, planeInMean, blockInMean, offsetMean, meanState, Looked, Findable, planeAdded, blockAdded, firstA, firstB, overlapOf, offsetCells, zeroState, fresh, Room, Roomy, stateMerged, mergedIn, offsetAdded, numberAdded, offsetsAdded, seqFor};
 
 // Axes, strides and global offsets in the order z, y, x.
 pub struct Block {
@@ -700,153 +701,6 @@ fn block_in_mean(
     m
 }
 
-// A mean with room for its two numbers.
-fn is_mean(kind: Reducer, len: usize) -> bool
-    ensures { λ r. ⌜ r ≡ isMean kind len ⌝ }
-{
-    match kind {
-        Reducer::Comp0Mean => len >= 2,
-        Reducer::ComponentSumMean => len >= 2,
-        Reducer::ComponentSumHistogram(_) => false,
-    }
-}
-
-fn add_mean_block(
-    setup: Setup,
-    a0: &[f64],
-    a1: &[f64],
-    a2: &[f64],
-    aw: &[f64],
-    b0: &[f64],
-    b1: &[f64],
-    b2: &[f64],
-    bw: &[f64],
-    i: usize,
-    j: usize,
-    sa: usize,
-    sb: usize,
-    ta: usize,
-    tb: usize,
-    n: usize,
-    k: usize,
-    l: usize,
-    state: &mut [f64],
-)
-    requires { ⌜ BlockFits (fields (now a0) (now a1) (now a2) (now aw)) i sa ta n k l ⌝ ∗ ⌜ BlockFits (fields (now b0) (now b1) (now b2) (now bw)) j sb tb n k l ⌝ ∗ ⌜ 2 ≤ length (now state) ⌝ }
-    ensures { λ _. ⌜ now (state .exit) ≡ withMean (blockInMean setup (fields (now (a0 .entry)) (now (a1 .entry)) (now (a2 .entry)) (now (aw .entry)))
-        (fields (now (b0 .entry)) (now (b1 .entry)) (now (b2 .entry)) (now (bw .entry))) i j sa sb ta tb n k 0 l (meanIn (now (state .entry)))) (now (state .entry)) ⌝ }
-{
-    let first = Mean {
-        total: state[0],
-        weight: state[1],
-    };
-    let m = block_in_mean(
-        setup,
-        a0,
-        a1,
-        a2,
-        aw,
-        b0,
-        b1,
-        b2,
-        bw,
-        i,
-        j,
-        sa,
-        sb,
-        ta,
-        tb,
-        n,
-        k,
-        l,
-        first,
-    );
-    state[0] = m.total;
-    state[1] = m.weight;
-}
-
-// The cells of a block, by the kind.
-fn add_block(
-    setup: Setup,
-    values: Table,
-    value_edges: &[f64],
-    value_keys: &[u64],
-    hints: &[u8],
-    a0: &[f64],
-    a1: &[f64],
-    a2: &[f64],
-    aw: &[f64],
-    b0: &[f64],
-    b1: &[f64],
-    b2: &[f64],
-    bw: &[f64],
-    i: usize,
-    j: usize,
-    sa: usize,
-    sb: usize,
-    ta: usize,
-    tb: usize,
-    n: usize,
-    k: usize,
-    l: usize,
-    state: &mut [f64],
-)
-    requires { ⌜ BlockFits (fields (now a0) (now a1) (now a2) (now aw)) i sa ta n k l ⌝ ∗ ⌜ BlockFits (fields (now b0) (now b1) (now b2) (now bw)) j sb tb n k l ⌝ ∗ ⌜ TabledValues (setup .reducer) (now «value_edges») values (now «value_keys») ⌝ }
-    ensures { λ _. ⌜ now (state .exit) ≡ blockAdded setup (now («value_edges» .entry)) (fields (now (a0 .entry)) (now (a1 .entry)) (now (a2 .entry)) (now (aw .entry)))
-        (fields (now (b0 .entry)) (now (b1 .entry)) (now (b2 .entry)) (now (bw .entry))) i j sa sb ta tb n k 0 l (now (state .entry)) ⌝ }
-{
-    let kind = setup.reducer;
-    if is_mean(kind, state.len()) {
-        add_mean_block(
-            setup,
-            a0,
-            a1,
-            a2,
-            aw,
-            b0,
-            b1,
-            b2,
-            bw,
-            i,
-            j,
-            sa,
-            sb,
-            ta,
-            tb,
-            n,
-            k,
-            l,
-            state,
-        );
-    } else {
-        add_planes(
-            setup,
-            values,
-            value_edges,
-            value_keys,
-            hints,
-            a0,
-            a1,
-            a2,
-            aw,
-            b0,
-            b1,
-            b2,
-            bw,
-            i,
-            j,
-            sa,
-            sb,
-            ta,
-            tb,
-            n,
-            k,
-            l,
-            state,
-        );
-    }
-}
-
 // The place of a cell in its block's slices.
 fn cell_index(b: Block, z: usize, y: usize, x: usize) -> usize
     requires { ⌜ Placed (b .sz) (b .sy) (b .sx) (cell z y x) ⌝ }
@@ -887,6 +741,82 @@ fn overlap(a: Block, b: Block, o: Idx3DOffset) -> Axes
     Axes { z, y, x }
 }
 
+// The mean of the cells of the offset.
+fn mean_of_cells(
+    setup: Setup,
+    a0: &[f64],
+    a1: &[f64],
+    a2: &[f64],
+    aw: &[f64],
+    a: Block,
+    b0: &[f64],
+    b1: &[f64],
+    b2: &[f64],
+    bw: &[f64],
+    b: Block,
+    o: Idx3DOffset,
+) -> Mean
+    requires { ⌜ Ready (blockOf a (now a0) (now a1) (now a2) (now aw)) ⌝ ∗ ⌜ Ready (blockOf b (now b0) (now b1) (now b2) (now bw)) ⌝ ∗ ⌜ Reach (axesOf a) (axesOf b) (idxOf o) ⌝ }
+    ensures { λ r. ⌜ r ≡ offsetMean setup (blockOf a (now (a0 .entry)) (now (a1 .entry)) (now (a2 .entry)) (now (aw .entry)))
+        (blockOf b (now (b0 .entry)) (now (b1 .entry)) (now (b2 .entry)) (now (bw .entry))) (idxOf o) ⌝ }
+{
+    let i = first_of_a(a, o);
+    let j = first_of_b(b, o);
+    let n = overlap(a, b, o);
+    let first = Mean {
+        total: 0.0,
+        weight: 0.0,
+    };
+    block_in_mean(
+        setup,
+        a0,
+        a1,
+        a2,
+        aw,
+        b0,
+        b1,
+        b2,
+        bw,
+        i,
+        j,
+        a.sy,
+        b.sy,
+        a.sz,
+        b.sz,
+        n.x,
+        n.y,
+        n.z,
+        first,
+    )
+}
+
+// Two calls keep the compiler from putting the loops into the walk over the offsets, where they run short of registers.
+fn mean_of_offset(
+    auto: bool,
+    setup: Setup,
+    a0: &[f64],
+    a1: &[f64],
+    a2: &[f64],
+    aw: &[f64],
+    a: Block,
+    b0: &[f64],
+    b1: &[f64],
+    b2: &[f64],
+    bw: &[f64],
+    b: Block,
+    o: Idx3DOffset,
+) -> Mean
+    requires { ⌜ Ready (blockOf a (now a0) (now a1) (now a2) (now aw)) ⌝ ∗ ⌜ Ready (blockOf b (now b0) (now b1) (now b2) (now bw)) ⌝ ∗ ⌜ Reach (axesOf a) (axesOf b) (idxOf o) ⌝ }
+    requires { ⌜ (auto ≡ true → blockOf a (now a0) (now a1) (now a2) (now aw) ≡ blockOf b (now b0) (now b1) (now b2) (now bw)) ⌝ }
+    ensures { λ r. ⌜ r ≡ offsetMean setup (blockOf a (now (a0 .entry)) (now (a1 .entry)) (now (a2 .entry)) (now (aw .entry)))
+        (blockOf b (now (b0 .entry)) (now (b1 .entry)) (now (b2 .entry)) (now (bw .entry))) (idxOf o) ⌝ }
+{
+    if auto {
+        return mean_of_cells(setup, a0, a1, a2, aw, a, a0, a1, a2, aw, a, o);
+    }
+    mean_of_cells(setup, a0, a1, a2, aw, a, b0, b1, b2, bw, b, o)
+}
+
 // The cells of the offset, a's with b's, into a state.
 fn add_offset_cells(
     setup: Setup,
@@ -915,7 +845,7 @@ fn add_offset_cells(
     let i = first_of_a(a, o);
     let j = first_of_b(b, o);
     let n = overlap(a, b, o);
-    add_block(
+    add_planes(
         setup,
         values,
         value_edges,
@@ -969,6 +899,17 @@ fn merge_state(n_states: usize, bin: usize, state: &[f64], scratch: &mut [f64])
         let at = place_of(n_states, e, bin);
         scratch[at] = scratch[at] + state[e];
     }
+}
+
+// The same of a mean's two numbers.
+fn merge_mean(n_states: usize, bin: usize, m: Mean, scratch: &mut [f64])
+    requires { ⌜ Room «n_states» bin 2 (length (now scratch)) ⌝ }
+    ensures { λ _. ⌜ now (scratch .exit) ≡ stateMerged «n_states» bin (meanState m) 0 2 (now (scratch .entry)) ⌝ }
+{
+    let total = place_of(n_states, 0, bin);
+    scratch[total] = scratch[total] + m.total;
+    let weight = place_of(n_states, 1, bin);
+    scratch[weight] = scratch[weight] + m.weight;
 }
 
 // The bin of an offset's distance.
@@ -1039,8 +980,178 @@ fn sum_cells(
     );
 }
 
+// A mean's cells, into its bin.
+fn add_mean(
+    auto: bool,
+    setup: Setup,
+    a0: &[f64],
+    a1: &[f64],
+    a2: &[f64],
+    aw: &[f64],
+    a: Block,
+    b0: &[f64],
+    b1: &[f64],
+    b2: &[f64],
+    bw: &[f64],
+    b: Block,
+    o: Idx3DOffset,
+    bin: usize,
+    scratch: &mut [f64],
+)
+    requires { ⌜ Ready (blockOf a (now a0) (now a1) (now a2) (now aw)) ⌝ ∗ ⌜ Ready (blockOf b (now b0) (now b1) (now b2) (now bw)) ⌝ ∗ ⌜ Reach (axesOf a) (axesOf b) (idxOf o) ⌝ }
+    requires { ⌜ (auto ≡ true → blockOf a (now a0) (now a1) (now a2) (now aw) ≡ blockOf b (now b0) (now b1) (now b2) (now bw)) ⌝ ∗ ⌜ Room (setup .«n_states») bin 2 (length (now scratch)) ⌝ }
+    ensures { λ _. ⌜ now (scratch .exit) ≡ stateMerged (setup .«n_states») bin (meanState (offsetMean setup (blockOf a (now (a0 .entry)) (now (a1 .entry)) (now (a2 .entry)) (now (aw .entry)))
+        (blockOf b (now (b0 .entry)) (now (b1 .entry)) (now (b2 .entry)) (now (bw .entry))) (idxOf o))) 0 2 (now (scratch .entry)) ⌝ }
+{
+    let m = mean_of_offset(auto, setup, a0, a1, a2, aw, a, b0, b1, b2, bw, b, o);
+    merge_mean(setup.n_states, bin, m, scratch);
+}
+
+// A histogram's cells, into its bin.
+fn add_histogram(
+    setup: Setup,
+    values: Table,
+    value_edges: &[f64],
+    value_keys: &[u64],
+    hints: &[u8],
+    a0: &[f64],
+    a1: &[f64],
+    a2: &[f64],
+    aw: &[f64],
+    a: Block,
+    b0: &[f64],
+    b1: &[f64],
+    b2: &[f64],
+    bw: &[f64],
+    b: Block,
+    o: Idx3DOffset,
+    bin: usize,
+    state: &mut [f64],
+    scratch: &mut [f64],
+)
+    requires { ⌜ Ready (blockOf a (now a0) (now a1) (now a2) (now aw)) ⌝ ∗ ⌜ Ready (blockOf b (now b0) (now b1) (now b2) (now bw)) ⌝ ∗ ⌜ Reach (axesOf a) (axesOf b) (idxOf o) ⌝ }
+    requires { ⌜ TabledValues (setup .reducer) (now «value_edges») values (now «value_keys») ⌝ ∗ ⌜ Room (setup .«n_states») bin (length (now state)) (length (now scratch)) ⌝ }
+    ensures { λ _. ⌜ now (scratch .exit) ≡ mergedIn (some bin) (setup .«n_states») (offsetCells setup (now («value_edges» .entry)) (blockOf a (now (a0 .entry)) (now (a1 .entry)) (now (a2 .entry)) (now (aw .entry)))
+        (blockOf b (now (b0 .entry)) (now (b1 .entry)) (now (b2 .entry)) (now (bw .entry))) (idxOf o) (fresh (length (now (state .entry))))) (now (scratch .entry)) ⌝ }
+{
+    sum_cells(
+        setup,
+        values,
+        value_edges,
+        value_keys,
+        hints,
+        a0,
+        a1,
+        a2,
+        aw,
+        a,
+        b0,
+        b1,
+        b2,
+        bw,
+        b,
+        o,
+        state,
+    );
+    merge_state(setup.n_states, bin, state, scratch);
+}
+
+// The cells of one offset, into its bin, by the kind.
+fn add_in_bin(
+    auto: bool,
+    setup: Setup,
+    values: Table,
+    value_edges: &[f64],
+    value_keys: &[u64],
+    hints: &[u8],
+    a0: &[f64],
+    a1: &[f64],
+    a2: &[f64],
+    aw: &[f64],
+    a: Block,
+    b0: &[f64],
+    b1: &[f64],
+    b2: &[f64],
+    bw: &[f64],
+    b: Block,
+    o: Idx3DOffset,
+    bin: usize,
+    state: &mut [f64],
+    scratch: &mut [f64],
+)
+    requires { ⌜ Ready (blockOf a (now a0) (now a1) (now a2) (now aw)) ⌝ ∗ ⌜ Ready (blockOf b (now b0) (now b1) (now b2) (now bw)) ⌝ ∗ ⌜ Reach (axesOf a) (axesOf b) (idxOf o) ⌝ }
+    requires { ⌜ (auto ≡ true → blockOf a (now a0) (now a1) (now a2) (now aw) ≡ blockOf b (now b0) (now b1) (now b2) (now bw)) ⌝ ∗ ⌜ TabledValues (setup .reducer) (now «value_edges») values (now «value_keys») ⌝ }
+    requires { ⌜ Room (setup .«n_states») bin (length (now state)) (length (now scratch)) ⌝ ∗ ⌜ length (now state) ≡ reducerSize (setup .reducer) (length (now «value_edges»)) ⌝ }
+    ensures { λ _. ⌜ now (scratch .exit) ≡ mergedIn (some bin) (setup .«n_states») (offsetCells setup (now («value_edges» .entry)) (blockOf a (now (a0 .entry)) (now (a1 .entry)) (now (a2 .entry)) (now (aw .entry)))
+        (blockOf b (now (b0 .entry)) (now (b1 .entry)) (now (b2 .entry)) (now (bw .entry))) (idxOf o) (fresh (length (now (state .entry))))) (now (scratch .entry)) ⌝ }
+{
+    let kind = setup.reducer;
+    match kind {
+        Reducer::Comp0Mean => {
+            add_mean(
+                auto,
+                setup,
+                a0,
+                a1,
+                a2,
+                aw,
+                a,
+                b0,
+                b1,
+                b2,
+                bw,
+                b,
+                o,
+                bin,
+                scratch,
+            )
+        }
+        Reducer::ComponentSumMean => {
+            add_mean(
+                auto,
+                setup,
+                a0,
+                a1,
+                a2,
+                aw,
+                a,
+                b0,
+                b1,
+                b2,
+                bw,
+                b,
+                o,
+                bin,
+                scratch,
+            )
+        }
+        Reducer::ComponentSumHistogram(_) => add_histogram(
+            setup,
+            values,
+            value_edges,
+            value_keys,
+            hints,
+            a0,
+            a1,
+            a2,
+            aw,
+            a,
+            b0,
+            b1,
+            b2,
+            bw,
+            b,
+            o,
+            bin,
+            state,
+            scratch,
+        ),
+    }
+}
+
 // The cells of one offset, if its distance has a bin.
 fn add_offset(
+    auto: bool,
     setup: Setup,
     tables: Tables,
     list: &[f64],
@@ -1064,36 +1175,37 @@ fn add_offset(
     scratch: &mut [f64],
 )
     requires { ⌜ Ready (blockOf a (now a0) (now a1) (now a2) (now aw)) ⌝ ∗ ⌜ Ready (blockOf b (now b0) (now b1) (now b2) (now bw)) ⌝ ∗ ⌜ Reach (axesOf a) (axesOf b) (idxOf o) ⌝ }
+    requires { ⌜ (auto ≡ true → blockOf a (now a0) (now a1) (now a2) (now aw) ≡ blockOf b (now b0) (now b1) (now b2) (now bw)) ⌝ }
     requires { ⌜ Looked setup (now list) (now «value_edges») tables (now keys) (now «value_keys») ⌝ }
-    requires { ⌜ Roomy setup (now list) (length (now state)) (length (now scratch)) ⌝ }
+    requires { ⌜ Roomy setup (now list) (now «value_edges») (length (now state)) (length (now scratch)) ⌝ }
     ensures { λ _. ⌜ now (scratch .exit) ≡ offsetAdded setup (now (list .entry)) (now («value_edges» .entry)) (widthOf width) (blockOf a (now (a0 .entry)) (now (a1 .entry)) (now (a2 .entry)) (now (aw .entry)))
         (blockOf b (now (b0 .entry)) (now (b1 .entry)) (now (b2 .entry)) (now (bw .entry))) (length (now (state .entry))) (idxOf o) (now (scratch .entry)) ⌝ }
 {
     let distances = tables.distances;
     let values = tables.values;
     match bin_of_offset(setup, distances, list, keys, hints, width, a, b, o) {
-        BinIndex::At(bin) => {
-            sum_cells(
-                setup,
-                values,
-                value_edges,
-                value_keys,
-                hints,
-                a0,
-                a1,
-                a2,
-                aw,
-                a,
-                b0,
-                b1,
-                b2,
-                bw,
-                b,
-                o,
-                state,
-            );
-            merge_state(setup.n_states, bin, state, scratch);
-        }
+        BinIndex::At(bin) => add_in_bin(
+            auto,
+            setup,
+            values,
+            value_edges,
+            value_keys,
+            hints,
+            a0,
+            a1,
+            a2,
+            aw,
+            a,
+            b0,
+            b1,
+            b2,
+            bw,
+            b,
+            o,
+            bin,
+            state,
+            scratch,
+        ),
         BinIndex::None => {}
     }
 }
@@ -1153,14 +1265,15 @@ fn add_number(
     state: &mut [f64],
     scratch: &mut [f64],
 )
-    requires { ⌜ Ready (blockOf a (now a0) (now a1) (now a2) (now aw)) ⌝ ∗ ⌜ Ready (blockOf b (now b0) (now b1) (now b2) (now bw)) ⌝ ∗ ⌜ (auto ≡ true → axesOf a ≡ axesOf b) ⌝ ∗ ⌜ i < length (seqFor auto (axesOf a) (axesOf b)) ⌝ }
+    requires { ⌜ Ready (blockOf a (now a0) (now a1) (now a2) (now aw)) ⌝ ∗ ⌜ Ready (blockOf b (now b0) (now b1) (now b2) (now bw)) ⌝ ∗ ⌜ (auto ≡ true → blockOf a (now a0) (now a1) (now a2) (now aw) ≡ blockOf b (now b0) (now b1) (now b2) (now bw)) ⌝ ∗ ⌜ i < length (seqFor auto (axesOf a) (axesOf b)) ⌝ }
     requires { ⌜ Looked setup (now list) (now «value_edges») tables (now keys) (now «value_keys») ⌝ }
-    requires { ⌜ Roomy setup (now list) (length (now state)) (length (now scratch)) ⌝ }
+    requires { ⌜ Roomy setup (now list) (now «value_edges») (length (now state)) (length (now scratch)) ⌝ }
     ensures { λ _. ⌜ now (scratch .exit) ≡ numberAdded setup (now (list .entry)) (now («value_edges» .entry)) (widthOf width) (blockOf a (now (a0 .entry)) (now (a1 .entry)) (now (a2 .entry)) (now (aw .entry)))
         (blockOf b (now (b0 .entry)) (now (b1 .entry)) (now (b2 .entry)) (now (bw .entry))) (length (now (state .entry))) (getElem? (seqFor auto (axesOf a) (axesOf b)) i) (now (scratch .entry)) ⌝ }
 {
     match seq_get(auto, a, b, i) {
         Offset::At(o) => add_offset(
+            auto,
             setup,
             tables,
             list,
@@ -1211,9 +1324,9 @@ fn fill(
     state: &mut [f64],
     scratch: &mut [f64],
 )
-    requires { ⌜ Ready (blockOf a (now a0) (now a1) (now a2) (now aw)) ⌝ ∗ ⌜ Ready (blockOf b (now b0) (now b1) (now b2) (now bw)) ⌝ ∗ ⌜ (auto ≡ true → axesOf a ≡ axesOf b) ⌝ }
+    requires { ⌜ Ready (blockOf a (now a0) (now a1) (now a2) (now aw)) ⌝ ∗ ⌜ Ready (blockOf b (now b0) (now b1) (now b2) (now bw)) ⌝ ∗ ⌜ (auto ≡ true → blockOf a (now a0) (now a1) (now a2) (now aw) ≡ blockOf b (now b0) (now b1) (now b2) (now bw)) ⌝ }
     requires { ⌜ Looked setup (now list) (now «value_edges») tables (now keys) (now «value_keys») ⌝ }
-    requires { ⌜ Roomy setup (now list) (length (now state)) (length (now scratch)) ⌝ }
+    requires { ⌜ Roomy setup (now list) (now «value_edges») (length (now state)) (length (now scratch)) ⌝ }
     ensures { λ _. ⌜ now (scratch .exit) ≡ offsetsAdded setup (now (list .entry)) (now («value_edges» .entry)) (widthOf width) (blockOf a (now (a0 .entry)) (now (a1 .entry)) (now (a2 .entry)) (now (aw .entry)))
         (blockOf b (now (b0 .entry)) (now (b1 .entry)) (now (b2 .entry)) (now (bw .entry))) (length (now (state .entry))) (seqFor auto (axesOf a) (axesOf b)) (now (scratch .entry)) ⌝ }
 {
@@ -1269,9 +1382,9 @@ fn fill_keyed(
     state: &mut [f64],
     scratch: &mut [f64],
 )
-    requires { ⌜ Ready (blockOf a (now a0) (now a1) (now a2) (now aw)) ⌝ ∗ ⌜ Ready (blockOf b (now b0) (now b1) (now b2) (now bw)) ⌝ ∗ ⌜ (auto ≡ true → axesOf a ≡ axesOf b) ⌝ }
+    requires { ⌜ Ready (blockOf a (now a0) (now a1) (now a2) (now aw)) ⌝ ∗ ⌜ Ready (blockOf b (now b0) (now b1) (now b2) (now bw)) ⌝ ∗ ⌜ (auto ≡ true → blockOf a (now a0) (now a1) (now a2) (now aw) ≡ blockOf b (now b0) (now b1) (now b2) (now bw)) ⌝ }
     requires { ⌜ Findable setup (now list) (now «value_edges») ⌝ }
-    requires { ⌜ Roomy setup (now list) (length (now state)) (length (now scratch)) ⌝ }
+    requires { ⌜ Roomy setup (now list) (now «value_edges») (length (now state)) (length (now scratch)) ⌝ }
     ensures { λ _. ⌜ now (scratch .exit) ≡ offsetsAdded setup (now (list .entry)) (now («value_edges» .entry)) (widthOf width) (blockOf a (now (a0 .entry)) (now (a1 .entry)) (now (a2 .entry)) (now (aw .entry)))
         (blockOf b (now (b0 .entry)) (now (b1 .entry)) (now (b2 .entry)) (now (bw .entry))) (length (now (state .entry))) (seqFor auto (axesOf a) (axesOf b)) (now (scratch .entry)) ⌝ }
 {
@@ -1351,9 +1464,9 @@ fn fill_tabled(
     state: &mut [f64],
     scratch: &mut [f64],
 )
-    requires { ⌜ Ready (blockOf a (now a0) (now a1) (now a2) (now aw)) ⌝ ∗ ⌜ Ready (blockOf b (now b0) (now b1) (now b2) (now bw)) ⌝ ∗ ⌜ (auto ≡ true → axesOf a ≡ axesOf b) ⌝ }
+    requires { ⌜ Ready (blockOf a (now a0) (now a1) (now a2) (now aw)) ⌝ ∗ ⌜ Ready (blockOf b (now b0) (now b1) (now b2) (now bw)) ⌝ ∗ ⌜ (auto ≡ true → blockOf a (now a0) (now a1) (now a2) (now aw) ≡ blockOf b (now b0) (now b1) (now b2) (now bw)) ⌝ }
     requires { ⌜ Findable setup (now list) (now «value_edges») ⌝ }
-    requires { ⌜ Roomy setup (now list) (length (now state)) (length (now scratch)) ⌝ }
+    requires { ⌜ Roomy setup (now list) (now «value_edges») (length (now state)) (length (now scratch)) ⌝ }
     ensures { λ _. ⌜ now (scratch .exit) ≡ offsetsAdded setup (now (list .entry)) (now («value_edges» .entry)) (widthOf width) (blockOf a (now (a0 .entry)) (now (a1 .entry)) (now (a2 .entry)) (now (aw .entry)))
         (blockOf b (now (b0 .entry)) (now (b1 .entry)) (now (b2 .entry)) (now (bw .entry))) (length (now (state .entry))) (seqFor auto (axesOf a) (axesOf b)) (now (scratch .entry)) ⌝ }
 {
@@ -1416,9 +1529,9 @@ fn run_in(
     scratch: &mut [f64],
     pack: &mut [f64],
 )
-    requires { ⌜ Ready (blockOf a (now a0) (now a1) (now a2) (now aw)) ⌝ ∗ ⌜ Ready (blockOf b (now b0) (now b1) (now b2) (now bw)) ⌝ ∗ ⌜ (auto ≡ true → axesOf a ≡ axesOf b) ⌝ }
+    requires { ⌜ Ready (blockOf a (now a0) (now a1) (now a2) (now aw)) ⌝ ∗ ⌜ Ready (blockOf b (now b0) (now b1) (now b2) (now bw)) ⌝ ∗ ⌜ (auto ≡ true → blockOf a (now a0) (now a1) (now a2) (now aw) ≡ blockOf b (now b0) (now b1) (now b2) (now bw)) ⌝ }
     requires { ⌜ Findable setup (now list) (now «value_edges») ⌝ }
-    requires { ⌜ Roomy setup (now list) (length (now state)) (length (now scratch)) ⌝ }
+    requires { ⌜ Roomy setup (now list) (now «value_edges») (length (now state)) (length (now scratch)) ⌝ }
     ensures { λ _. ⌜ now (pack .exit) ≡ addedScratch (now (pack .entry)) (offsetsAdded setup (now (list .entry)) (now («value_edges» .entry)) (widthOf width) (blockOf a (now (a0 .entry)) (now (a1 .entry)) (now (a2 .entry)) (now (aw .entry)))
         (blockOf b (now (b0 .entry)) (now (b1 .entry)) (now (b2 .entry)) (now (bw .entry))) (length (now (state .entry))) (seqFor auto (axesOf a) (axesOf b)) (now (scratch .entry))) ⌝ }
 {

@@ -1,34 +1,42 @@
--- Rows in batches: edges looked up by keys, and the pairs left out of a batch.
+-- Rows in batches: the places that are not outside, their pairs by the numbers of their bins, and the pairs left out.
 use mathlib.Core.Path.{_≡_, refl, sym, ap, subst, _∙_}
 use mathlib.Core.Option.{Option, none, some}
-use mathlib.Core.Bool.{Bool, true, false}
+use mathlib.Core.Bool.{Bool, true, false, cond, _&&_}
 use mathlib.Core.Logic.{⊎-elim}
-use mathlib.Core.List.{List, [], _∷_, _++_, map}
+use mathlib.Core.List.{List, [], _∷_, _++_, map, map-map, map-append}
 use Prim.Native.Nat.{ℕ, zero, suc, _+_, _-_, _*_, _<_, _≤_, zero-le}
-use native.Mathlib.Nat.{eq-or-lt-of-le, lt-irrefl, add-zero, zero-add, add-suc, le-refl, le-trans, not-suc-le-zero, le-of-suc-le-suc}
+use native.Mathlib.Nat.{eq-or-lt-of-le, lt-irrefl, add-zero, zero-add, le-refl, not-suc-le-zero, le-of-suc-le-suc}
 use native.Mathlib.Numerals.{add-one}
 use native.Mathlib.Omega.{arith}
-use lib.ListN.{length, getD, set, take}
-use lib.Seq.{getD-set-same, getD-set-other, take-suc, getD-take, take-set-le, take-suc-set}
-use lib.Ieee.{Float, nan, binary64, lt, le}
-use Rattle.definitions.specs.Floats.{asUsize}
-use Rattle.definitions.specs.Bins.{regularIndex, below}
+use lib.Dec.{T, ltb, leb}
+use lib.ListN.{length, getD, set, take, length-map, List·getD-map}
+use lib.Seq.{getD-set-same, getD-set-other, take-suc, take-set-le, take-suc-set, take-length, length-take-le, ext-getD}
+use lib.Ieee.{Float, nan, binary64, lt, le, fits}
+use lib.Ieee.Bits.{is-true}
+use lib.Ieee.Fits.{nan-fits, add-fits}
+use borrow.Author.Tests.{ltb-true, le-ltb, lt-leb}
+use Rattle.definitions.specs.Bins.{below}
 use Rattle.definitions.specs.Points as points
 use Rattle.definitions.specs.Points.{squaredDiffNorm}
+use Rattle.definitions.specs.Reducer as kinds
 use Rattle.definitions.specs.Reducer.{Datum, componentSum, pairIn, datumOf}
-use Rattle.bins.specs.declared.RegularBinEdges.{RegularBinEdges}
+use Rattle.laws.proofs.Loops.{runOn, run-append}
 use Rattle.reducer.specs.declared.BuiltEdges.{BuiltEdges}
-use Rattle.reducer.specs.declared.BuiltEdges.the-variants.{Regular, Irregular}
+use Rattle.reducer.specs.declared.PairOperation.{PairOperation}
 use Rattle.reducer.specs.declared.Reducer.{Reducer}
 use Rattle.reducer.specs.declared.Reducer.the-variants.{Comp0Mean, ComponentSumMean, ComponentSumHistogram}
 use Rattle.reducer.specs.Readings.{opOf}
-use Rattle.reducer.specs.Consume.{builtBin, valueBin}
+use Rattle.reducer.specs.Consume.{reducerSize, builtBins, builtBin, hasRoom, addIn, consumedAt, consumed}
+use Rattle.reducer.proofs.Ways.{consumed-found}
 use Rattle.edge_table.specs.declared.Table.{Table}
+use Rattle.edge_table.specs.Table.{keysTo, keysOf, numberOr, insideBin, foundOf, droppedOf}
 use Rattle.edge_table.specs.Tabled.{EndsOf, Tabled, TabledValues}
+use Rattle.edge_table.proofs.Batch.{found-map, inside-bin, dropped-bin}
 use Rattle.edge_table.proofs.Lookup.{bin-low, bin-high}
 use Rattle.unstructured.specs.declared.Setup.{Setup}
-use Rattle.unstructured.specs.Pairs.{builtPair, pairAdded, pairStep, rowAdded}
-use Rattle.unstructured.specs.Batches.{quotient, looked, lookedBin, lookedPair, listedStep, bit, inside, also, keptBelow, overList}
+use Rattle.unstructured.specs.declared.Pair.{Pair}
+use Rattle.unstructured.specs.Pairs.{thePair, builtPair, pairAdded, pairStep, rowAdded}
+use Rattle.unstructured.specs.Batches.{Listed, bit, inside, also, keptBelow, picked, numberedPair, pairPlaced, pairValues, placedTo, valueNumbers, placesAdded}
 
 -- ---- bits
 pub bit-le : (t : Bool) → bit t ≤ 1
@@ -49,105 +57,175 @@ stored-next {A} o d e v g h p q x l =
     ⊎-elim (λ (z : x ≡ e). ap (λ (y : ℕ). getD (set d e v) y o) z ∙ getD-set-same d e v o h ∙ p ∙ ap g (sym z))
     (λ (z : x < e). getD-set-other d e x v o (λ (y : x ≡ e). lt-irrefl e (subst (λ (n : ℕ). n < e) y z)) ∙ q x z) (eq-or-lt-of-le k)
 
--- ---- lookups
-module _ (edges : BuiltEdges) (list : List Float) (x : Float) (o : Option ℕ) where
-  pub look-regular : (e : RegularBinEdges) (i : ℕ) → edges ≡ Regular e → i ≡ asUsize x → o ≡ below (e .«n_bins») (some i) → o ≡ lookedBin edges list x
-  unfolding lookedBin
-  look-regular e i h k q = q ∙ (rw (k, h))
-
-  pub look-irregular : edges ≡ Irregular → o ≡ builtBin Irregular list x → o ≡ lookedBin edges list x
-  unfolding lookedBin
-  look-irregular h q = q ∙ (rw h)
-
-  pub bin-irregular : edges ≡ Irregular → o ≡ builtBin Irregular list x → o ≡ builtBin edges list x
-  bin-irregular h q = q ∙ (rw h)
-
-pub tabled-irregular : (edges : BuiltEdges) (list : List Float) (table : Table) (keys : List ℕ) → edges ≡ Irregular → Tabled edges list table keys → Tabled Irregular list table keys
-tabled-irregular edges list table keys h t = subst (λ (e : BuiltEdges). Tabled e list table keys) h t
-
--- ---- values
-module _ (kind : Reducer) (list : List Float) (d : Datum) where
-  pub value-mean0 : kind ≡ Comp0Mean → none ≡ valueBin kind list d
-  value-mean0 h = rw h
-
-  pub value-mean : kind ≡ ComponentSumMean → none ≡ valueBin kind list d
-  value-mean h = rw h
-
-  pub value-found : (e : BuiltEdges) (v : Float) (o : Option ℕ) → kind ≡ ComponentSumHistogram e → v ≡ componentSum d → o ≡ builtBin e list v → o ≡ valueBin kind list d
-  value-found e v o h k q = q ∙ ap (builtBin e list) k ∙ (rw h)
-
-pub tabled-histogram : (kind : Reducer) (list : List Float) (table : Table) (keys : List ℕ) (e : BuiltEdges) → kind ≡ ComponentSumHistogram e → TabledValues kind list table keys → Tabled e list table keys
-tabled-histogram kind list table keys e h t = subst (λ (r : Reducer). TabledValues r list table keys) h t
-
--- within the ends it is the edges' own
-looked-bin : (edges : BuiltEdges) (list : List Float) (first last x : Float) → EndsOf edges list first last → lt x first ≡ false → le last x ≡ false → lookedBin edges list (looked edges x) ≡ builtBin edges list x
-unfolding lookedBin builtBin regularIndex
-looked-bin (Regular e) list first last x ends low high =
-    let lo : lt x (e .min) ≡ false = ap (lt x) (sym (ends .0)) ∙ low in
-    let hi : le (e .max) x ≡ false = ap (λ (y : Float). le y x) (sym (ends .1)) ∙ high in
-    rw (lo, hi)
-looked-bin Irregular list first last x ends low high = refl
-
--- what is written in place of a distance
-pub looked-regular : (edges : BuiltEdges) (e : RegularBinEdges) (x y : Float) → edges ≡ Regular e → y ≡ quotient e x → y ≡ looked edges x
-looked-regular edges e x y h q = q ∙ (rw h)
-
-pub looked-irregular : (edges : BuiltEdges) (x : Float) → edges ≡ Irregular → x ≡ looked edges x
-looked-irregular edges x h = rw h
-
--- a store at e leaves what is above it
-pub above-stored : (d : List Float) (e : ℕ) (v : Float) (z : List Float) → ((x : ℕ) → e ≤ x → getD d x nan ≡ getD z x nan) → (x : ℕ) → e + 1 ≤ x → getD (set d e v) x nan ≡ getD z x nan
-above-stored d e v z h x l = getD-set-other d e x v nan (λ (y : x ≡ e). absurd (omega (arith, y))) ∙ h x (omega arith)
+-- a store at or below e leaves what is above it
+pub above-stored : (d : List Float) (c e : ℕ) (v : Float) (z : List Float) → c ≤ e → ((x : ℕ) → e ≤ x → getD d x nan ≡ getD z x nan) → (x : ℕ) → e + 1 ≤ x → getD (set d c v) x nan ≡ getD z x nan
+above-stored d c e v z k h x l = getD-set-other d c x v nan (λ (y : x ≡ c). absurd (omega (arith, y))) ∙ h x (omega arith)
 
 -- ---- the list of places
-pub one-more : (l : List ℕ) (c e w : ℕ) (k : List ℕ) → w ≤ 1 → c < length l → take c l ≡ k → take (c + w) (set l c e) ≡ also w k e
-one-more l c e zero k h r p = rw add-zero (take-set-le c l c e (le-refl c) ∙ p)
-one-more l c e (suc zero) k h r p = rw add-one (take-suc-set l c e r ∙ ap (λ (x : List ℕ). x ++ (e ∷ [])) p)
-one-more l c e (suc (suc w)) k h r p = absurd (not-suc-le-zero (le-of-suc-le-suc h))
+pub one-more : {A : Type 0} (l : List A) (c w : ℕ) (e : A) (k : List A) → w ≤ 1 → c < length l → take c l ≡ k → take (c + w) (set l c e) ≡ also w k e
+one-more l c zero e k h r p = rw add-zero (take-set-le c l c e (le-refl c) ∙ p)
+one-more l c (suc zero) e k h r p = rw add-one (take-suc-set l c e r ∙ ap (λ (x : List _). x ++ (e ∷ [])) p)
+one-more l c (suc (suc w)) e k h r p = absurd (not-suc-le-zero (le-of-suc-le-suc h))
 
 pub kept-next : (first last : Float) (d : List Float) (e : ℕ) → keptBelow first last d (e + 1) ≡ also (inside first last (getD d e nan)) (keptBelow first last d e) e
 unfolding keptBelow
 kept-next first last d e = rw add-one
 
-snoc-le : (l : List ℕ) (e q : ℕ) → ((x : ℕ) → getD l x 0 ≤ e) → getD (l ++ (e ∷ [])) q 0 ≤ e
-snoc-le [] e zero h = le-refl e
-snoc-le [] e (suc q) h = zero-le
-snoc-le (x ∷ l) e zero h = h 0
-snoc-le (x ∷ l) e (suc q) h = snoc-le l e q (λ (y : ℕ). h (suc y))
+map-also : (f : ℕ → Float) (w : ℕ) (l : List ℕ) (e : ℕ) → map f (also w l e) ≡ also w (map f l) (f e)
+map-also f zero l e = refl
+map-also f (suc w) l e = map-append f l (e ∷ [])
 
-also-le : (w : ℕ) (l : List ℕ) (e q : ℕ) → ((x : ℕ) → getD l x 0 ≤ e) → getD (also w l e) q 0 ≤ e
-also-le zero l e q h = h q
-also-le (suc w) l e q h = snoc-le l e q h
+pub picked-next : (first last : Float) (d : List Float) (e : ℕ)
+    → picked d (keptBelow first last d (e + 1)) ≡ also (inside first last (getD d e nan)) (picked d (keptBelow first last d e)) (getD d e nan)
+unfolding picked
+picked-next first last d e =
+    ap (map (λ x. getD d x nan)) (kept-next first last d e) ∙ map-also (λ x. getD d x nan) (inside first last (getD d e nan)) (keptBelow first last d e) e
 
-kept-le : (first last : Float) (d : List Float) (m q : ℕ) → getD (keptBelow first last d m) q 0 ≤ m - 1
+-- what holds of each listed place
+snoc-all : (P : ℕ → Type 0) (l : List ℕ) (e : ℕ) → ((q : ℕ) → q < length l → P (getD l q 0)) → P e → (q : ℕ) → q < length (l ++ (e ∷ [])) → P (getD (l ++ (e ∷ [])) q 0)
+snoc-all P [] e h k zero p = k
+snoc-all P [] e h k (suc q) p = absurd (omega arith)
+snoc-all P (x ∷ l) e h k zero p = h 0 (omega arith)
+snoc-all P (x ∷ l) e h k (suc q) p = snoc-all P l e (λ y r. h (suc y) (omega arith)) k q (omega arith)
+
+also-all : (P : ℕ → Type 0) (a b : Bool) (l : List ℕ) (e : ℕ) → ((q : ℕ) → q < length l → P (getD l q 0)) → (a ≡ false → b ≡ false → P e)
+    → (q : ℕ) → q < length (also ((1 - bit a) * (1 - bit b)) l e) → P (getD (also ((1 - bit a) * (1 - bit b)) l e) q 0)
+also-all P true true l e h k q p = h q p
+also-all P true false l e h k q p = h q p
+also-all P false true l e h k q p = h q p
+also-all P false false l e h k q p = snoc-all P l e h (k refl refl) q p
+
+kept-all : (P : ℕ → Type 0) (first last : Float) (d : List Float) (m : ℕ) → ((e : ℕ) → e < m → lt (getD d e nan) first ≡ false → le last (getD d e nan) ≡ false → P e)
+    → (q : ℕ) → q < length (keptBelow first last d m) → P (getD (keptBelow first last d m) q 0)
 unfolding keptBelow
-kept-le first last d zero q = zero-le
-kept-le first last d (suc e) q =
-    let h : getD (also (inside first last (getD d e nan)) (keptBelow first last d e) e) q 0 ≤ e = also-le (inside first last (getD d e nan)) (keptBelow first last d e) e q (λ (x : ℕ). le-trans (kept-le first last d e x) (omega arith)) in
-    omega arith
+kept-all P first last d zero h q p = absurd (omega arith)
+kept-all P first last d (suc e) h q p =
+    also-all P (lt (getD d e nan) first) (le last (getD d e nan)) (keptBelow first last d e) e (kept-all P first last d e (λ x l. h x (omega arith))) (h e (omega arith)) q p
 
--- a place of the list is one of the m
-pub kept-less : (first last : Float) (d : List Float) (m c : ℕ) (l : List ℕ) → c ≤ m → take c l ≡ keptBelow first last d m → (q : ℕ) → q < c → getD l q 0 < m
-kept-less first last d m c l b e q p =
-    let g : getD (take c l) q 0 ≡ getD l q 0 = getD-take c l q 0 p in
-    omega (arith, kept-le first last d m q, ap (λ (x : List ℕ). getD x q 0) e)
+pub kept-listed : (first last : Float) (d : List Float) (m c : ℕ) (l : List ℕ) → c ≤ m → m ≤ length l → take c l ≡ keptBelow first last d m → Listed m (take c l)
+kept-listed first last d m c l h k e =
+    record {
+      few = omega (arith, length-take-le c l (omega arith));
+      below = subst (λ (x : List ℕ). (q : ℕ) → q < length x → getD x q 0 < m) (sym e) (kept-all (λ x. x < m) first last d m (λ x p y z. p));
+    }
 
--- ---- folds over the list
-over-append : (f : ℕ → List Float → List Float) (l : List ℕ) (e : ℕ) (s : List Float) → overList f (l ++ (e ∷ [])) s ≡ f e (overList f l s)
-unfolding overList
-over-append f [] e s = refl
-over-append f (x ∷ l) e s = over-append f l e (f x s)
+-- ---- numbers of bins
+module _ (n size b len : ℕ) where
+  many-states : leb n 4096 ≡ false → hasRoom n size b len ≡ false
+  unfolding hasRoom
+  many-states h = rw h
 
-pub listed-next : (f : ℕ → List Float → List Float) (l : List ℕ) (q : ℕ) (z s r : List Float) → q < length l → s ≡ overList f (take q l) z → r ≡ f (getD l q 0) s → r ≡ overList f (take (q + 1) l) z
-listed-next f l q z s r h p e =
-    e ∙ ap (f (getD l q 0)) p ∙ sym (over-append f (take q l) (getD l q 0) z) ∙ ap (λ (x : List ℕ). overList f x z) (sym (take-suc l q 0 h) ∙ ap (λ (n : ℕ). take n l) (sym (add-one q)))
+  large-states : leb size 4096 ≡ false → hasRoom n size b len ≡ false
+  unfolding hasRoom
+  large-states h = go (leb n 4096)
+    where
+      go : (p : Bool) → (p && leb size 4096 && ltb b n && leb (n * size) len) ≡ false
+      go true = rw h
+      go false = refl
 
+  past-states : ltb b n ≡ false → hasRoom n size b len ≡ false
+  unfolding hasRoom
+  past-states h = go (leb n 4096) (leb size 4096)
+    where
+      go : (p q : Bool) → (p && q && ltb b n && leb (n * size) len) ≡ false
+      go true true = rw h
+      go true false = refl
+      go false q = refl
+
+no-room : (r : Reducer) (m : ℕ) (o : Option ℕ) (n b : ℕ) (d : Datum) (s : List Float) → hasRoom n (reducerSize r m) b (length s) ≡ false → consumedAt r m o n b d s ≡ s
+unfolding consumedAt
+no-room r m o n b d s h = rw h
+
+-- the number of no bin is past each histogram
+histogram-number : (e : BuiltEdges) (m n b : ℕ) (d : Datum) (s : List Float) (o : Option ℕ)
+    → consumedAt (ComponentSumHistogram e) m (some (numberOr o)) n b d s ≡ consumedAt (ComponentSumHistogram e) m o n b d s
+unfolding consumedAt
+histogram-number e m n b d s (some x) = refl
+histogram-number e m n b d s none = go (ltb 4096 (builtBins e m)) refl
+  where
+    go : (t : Bool) → ltb 4096 (builtBins e m) ≡ t
+        → cond (hasRoom n (builtBins e m) b (length s)) (addIn (cond t (some 4096) none) n b (d .weight) s) s ≡ cond (hasRoom n (builtBins e m) b (length s)) s s
+    go false h = refl
+    go true h = rw (large-states n (builtBins e m) b (length s) (lt-leb (builtBins e m) 4096 (ltb-true 4096 (builtBins e m) h)))
+
+module _ (valueEdges : List Float) (n b : ℕ) (d : Datum) (s : List Float) (v : ℕ) where
+  value-number : (r : Reducer) → ((e : BuiltEdges) → r ≡ ComponentSumHistogram e → v ≡ numberOr (builtBin e valueEdges (componentSum d)))
+      → consumedAt r (length valueEdges) (some v) n b d s ≡ consumed r valueEdges n b d s
+  unfolding consumed consumedAt
+  value-number Comp0Mean h = refl
+  value-number ComponentSumMean h = refl
+  value-number (ComponentSumHistogram e) h =
+      ap (λ (x : ℕ). consumedAt (ComponentSumHistogram e) (length valueEdges) (some x) n b d s) (h e refl)
+      ∙ histogram-number e (length valueEdges) n b d s (builtBin e valueEdges (componentSum d))
+
+module _ (setup : Setup) (valueEdges : List Float) (a b : points.Point) (v : ℕ) (s : List Float) where
+  abbrev datum : Datum
+  datum = datumOf (opOf (setup .op)) (a .rd) (b .rd)
+
+  -- a pair by the number of its bin
+  numbered : (o : Option ℕ) → ((e : BuiltEdges) → setup .reducer ≡ ComponentSumHistogram e → v ≡ numberOr (builtBin e valueEdges (componentSum datum)))
+      → pairPlaced setup (length valueEdges) v (numberedPair setup a b (numberOr o)) s ≡ pairAdded setup valueEdges (pairIn o datum) s
+  unfolding numberedPair
+  numbered none h = go (ltb 4096 (setup .«n_states»)) refl
+    where
+      go : (t : Bool) → ltb 4096 (setup .«n_states») ≡ t → pairPlaced setup (length valueEdges) v (pairIn (cond t (some 4096) none) datum) s ≡ s
+      go false e = refl
+      go true e =
+          no-room (setup .reducer) (length valueEdges) (some v) (setup .«n_states») 4096 datum s
+          (many-states (setup .«n_states») _ 4096 (length s) (lt-leb (setup .«n_states») 4096 (ltb-true 4096 (setup .«n_states») e)))
+  numbered (some i) h = go (ltb i (setup .«n_states»)) refl
+    where
+      go : (t : Bool) → ltb i (setup .«n_states») ≡ t
+          → pairPlaced setup (length valueEdges) v (pairIn (cond t (some i) none) datum) s ≡ consumed (setup .reducer) valueEdges (setup .«n_states») i datum s
+      go true e = value-number valueEdges (setup .«n_states») i datum s v (setup .reducer) h
+      go false e =
+          sym
+          (consumed-found (setup .reducer) valueEdges (setup .«n_states») i datum s
+          ∙ no-room (setup .reducer) (length valueEdges) _ (setup .«n_states») i datum s (past-states (setup .«n_states») _ i (length s) e))
+
+-- ---- lists by places
+at-map : {A B : Type 0} (f : A → B) (l : List A) (q : ℕ) (o : A) (z : B) → q < length l → getD (map f l) q z ≡ f (getD l q o)
+at-map f [] q o z h = absurd (omega arith)
+at-map f (x ∷ l) zero o z h = refl
+at-map f (x ∷ l) (suc q) o z h = at-map f l q o z (omega arith)
+
+at-maps : {A B C : Type 0} (f : A → B) (g : B → C) (l : List A) (q : ℕ) (o : A) (p : B) (z : C) → q < length l → getD (map g (map f l)) q z ≡ g (f (getD l q o))
+at-maps f g l q o p z h =
+    let k : q < length (map f l) = omega (arith, length-map l f) in
+    at-map g (map f l) q p z k ∙ ap g (at-map f l q o p h)
+
+value-at : (r : Reducer) (e : BuiltEdges) (edges : List Float) (f : ℕ → Float) (l found : List ℕ) (q : ℕ) → q < length l → r ≡ ComponentSumHistogram e
+    → getD (valueNumbers r edges (map f l) found) q 0 ≡ numberOr (builtBin e edges (f (getD l q 0)))
+unfolding valueNumbers
+value-at r e edges f l found q h k =
+    ap (λ (y : Reducer). getD (valueNumbers y edges (map f l) found) q 0) k ∙ at-maps f (λ v. numberOr (builtBin e edges v)) l q 0 nan 0 h
+
+module _ (setup : Setup) (m : ℕ) (a : points.Point) (g : ℕ → points.Point) (j : ℕ) (places found valueFound : List ℕ) where
+  pub placed-none : (s : List Float) → s ≡ placedTo a g j setup m places found valueFound 0 s
+  unfolding placedTo
+  placed-none s = refl
+
+  pub placed-next : (q : ℕ) (b : points.Point) (pair : Pair) (z s r : List Float) → s ≡ placedTo a g j setup m places found valueFound q z → b ≡ g (j + getD places q 0)
+      → thePair pair ≡ numberedPair setup a b (getD found q 0) → r ≡ pairPlaced setup m (getD valueFound q 0) (thePair pair) s → r ≡ placedTo a g j setup m places found valueFound (q + 1) z
+  unfolding placedTo
+  placed-next q b pair z s r h e p k =
+      k ∙ (λ i. pairPlaced setup m (getD valueFound q 0) ((p ∙ ap (λ (y : points.Point). numberedPair setup a y (getD found q 0)) e) i) (h i))
+      ∙ ap (λ (n : ℕ). placedTo a g j setup m places found valueFound n z) (sym (add-one q))
+
+  module _ (f : ℕ → List Float → List Float) (h : (q : ℕ) → q < length places → (t : List Float)
+      → pairPlaced setup m (getD valueFound q 0) (numberedPair setup a (g (j + getD places q 0)) (getD found q 0)) t ≡ f (getD places q 0) t) where
+    placed-taken : (q : ℕ) (s : List Float) → q ≤ length places → placedTo a g j setup m places found valueFound q s ≡ runOn f (take q places) s
+    unfolding placedTo
+    placed-taken zero s k = refl
+    placed-taken (suc q) s k =
+        h q k _ ∙ ap (f (getD places q 0)) (placed-taken q s (omega arith)) ∙ sym (run-append f (take q places) (getD places q 0 ∷ []) s)
+        ∙ ap (λ (l : List ℕ). runOn f l s) (sym (take-suc places q 0 k))
+
+    placed-all : (s : List Float) → placedTo a g j setup m places found valueFound (length places) s ≡ runOn f places s
+    placed-all s = placed-taken (length places) s (le-refl (length places)) ∙ ap (λ (l : List ℕ). runOn f l s) (take-length places)
+
+-- ---- rows
 module _ (setup : Setup) (list valueEdges : List Float) (a : points.Point) (g : ℕ → points.Point) where
-  pub listed-is : (j e : ℕ) (d : List Float) (b : points.Point) (s q : List Float) → b ≡ g (j + e) → q ≡ pairAdded setup valueEdges (lookedPair setup list a b (getD d e nan)) s
-      → q ≡ listedStep setup list valueEdges a g j d e s
-  unfolding listedStep
-  listed-is j e d b s q h k = k ∙ ap (λ (x : points.Point). pairAdded setup valueEdges (lookedPair setup list a x (getD d e nan)) s) h
-
   -- a pair without a bin changes nothing
   skipped : (b : points.Point) (s : List Float) → none ≡ builtBin (setup .edges) list (squaredDiffNorm a b) → s ≡ pairStep setup list valueEdges (a, b) s
   unfolding pairStep builtPair
@@ -174,37 +252,30 @@ module _ (setup : Setup) (list valueEdges : List Float) (a : points.Point) (g : 
       let e : suc m ≡ m + 1 = omega arith in
       ap (λ (x : ℕ). rowAdded setup list valueEdges a g j x s) e ∙ row-join j m 1 s ∙ row-cons (j + m) 0 _ ∙ sym (row-none (suc (j + m)) _)
 
-  module _ (first last : Float) (ends : EndsOf (setup .edges) list first last) (d y : List Float) (j : ℕ) where
-    -- a listed place is its pair
-    listed-pair : (m : ℕ) (x : Float) (s : List Float) → x ≡ squaredDiffNorm a (g (j + m)) → getD y m nan ≡ looked (setup .edges) x → lt x first ≡ false → le last x ≡ false
-        → listedStep setup list valueEdges a g j y m s ≡ pairStep setup list valueEdges (a, g (j + m)) s
-    unfolding listedStep lookedPair pairStep builtPair
-    listed-pair m x s e l p q =
-        let o = ap (lookedBin (setup .edges) list) l ∙ looked-bin (setup .edges) list first last x ends p q ∙ ap (builtBin (setup .edges) list) e in
-        λ i. pairAdded setup valueEdges (pairIn (o i) (datumOf (opOf (setup .op)) (a .rd) (g (j + m) .rd))) s
+  -- the pair of a with a place of a batch whose first point is j
+  abbrev placeStep : ℕ → ℕ → List Float → List Float
+  placeStep j e s = pairStep setup list valueEdges (a, g (j + e)) s
 
+  module _ (first last : Float) (ends : EndsOf (setup .edges) list first last) (d : List Float) (j : ℕ) where
     -- one place more, listed or skipped
-    also-step : (m : ℕ) (x : Float) (l : List ℕ) (s : List Float) → x ≡ squaredDiffNorm a (g (j + m)) → getD y m nan ≡ looked (setup .edges) x
-        → overList (listedStep setup list valueEdges a g j y) (also (inside first last x) l m) s ≡ pairStep setup list valueEdges (a, g (j + m)) (overList (listedStep setup list valueEdges a g j y) l s)
-    also-step m x l s e k = go (lt x first) (le last x) refl refl
+    also-step : (m : ℕ) (x : Float) (l : List ℕ) (s : List Float) → x ≡ squaredDiffNorm a (g (j + m))
+        → runOn (placeStep j) (also (inside first last x) l m) s ≡ placeStep j m (runOn (placeStep j) l s)
+    also-step m x l s e = go (lt x first) (le last x) refl refl
       where
         o : List Float
-        o = overList (listedStep setup list valueEdges a g j y) l s
+        o = runOn (placeStep j) l s
 
-        go : (b c : Bool) → lt x first ≡ b → le last x ≡ c
-            → overList (listedStep setup list valueEdges a g j y) (also ((1 - bit b) * (1 - bit c)) l m) s ≡ pairStep setup list valueEdges (a, g (j + m)) o
+        go : (b c : Bool) → lt x first ≡ b → le last x ≡ c → runOn (placeStep j) (also ((1 - bit b) * (1 - bit c)) l m) s ≡ placeStep j m o
         go true true p q = skipped (g (j + m)) o (bin-low list first last x (setup .edges) ends p ∙ ap (builtBin (setup .edges) list) e)
         go true false p q = skipped (g (j + m)) o (bin-low list first last x (setup .edges) ends p ∙ ap (builtBin (setup .edges) list) e)
         go false true p q = skipped (g (j + m)) o (bin-high list first last x (setup .edges) ends q ∙ ap (builtBin (setup .edges) list) e)
-        go false false p q = over-append (listedStep setup list valueEdges a g j y) l m s ∙ listed-pair m x o e k p q
+        go false false p q = run-append (placeStep j) l (m ∷ []) s
 
-    pub batch-row : (m : ℕ) (s : List Float) → ((e : ℕ) → e < m → getD d e nan ≡ squaredDiffNorm a (g (j + e))) → ((e : ℕ) → e < m → getD y e nan ≡ looked (setup .edges) (getD d e nan))
-        → overList (listedStep setup list valueEdges a g j y) (keptBelow first last d m) s ≡ rowAdded setup list valueEdges a g j m s
-    unfolding keptBelow overList
-    batch-row zero s h k = row-none j s
-    batch-row (suc m) s h k =
-        also-step m (getD d m nan) (keptBelow first last d m) s (h m (omega arith)) (k m (omega arith))
-        ∙ ap (pairStep setup list valueEdges (a, g (j + m))) (batch-row m s (λ e p. h e (omega arith)) (λ e p. k e (omega arith))) ∙ sym (row-snoc j m s)
+    kept-row : (m : ℕ) (s : List Float) → ((e : ℕ) → e < m → getD d e nan ≡ squaredDiffNorm a (g (j + e))) → runOn (placeStep j) (keptBelow first last d m) s ≡ rowAdded setup list valueEdges a g j m s
+    unfolding keptBelow
+    kept-row zero s h = row-none j s
+    kept-row (suc m) s h =
+        also-step m (getD d m nan) (keptBelow first last d m) s (h m (omega arith)) ∙ ap (placeStep j m) (kept-row m s (λ e p. h e (omega arith))) ∙ sym (row-snoc j m s)
 
   -- a batch done of a row
   pub batches-turn : (n : ℕ) (z : List Float) (j m : ℕ) (s q : List Float) → j < n → m ≤ n - j → q ≡ rowAdded setup list valueEdges a g j m s
@@ -212,3 +283,93 @@ module _ (setup : Setup) (list valueEdges : List Float) (a : points.Point) (g : 
   batches-turn n z j m s q h b e inv =
       let k : n - j ≡ m + (n - (j + m)) = omega arith in
       ap (rowAdded setup list valueEdges a g (j + m) (n - (j + m))) e ∙ sym (row-join j m (n - (j + m)) s) ∙ sym (ap (λ (x : ℕ). rowAdded setup list valueEdges a g j x s) k) ∙ inv
+
+  -- ---- a batch: its listed pairs are the row's
+  module _ (hints : List ℕ) (table : Table) (tabled : Tabled (setup .edges) list table []) (d : List Float) (m j : ℕ) (distant : (e : ℕ) → e < m → getD d e nan ≡ squaredDiffNorm a (g (j + e)))
+      (valueFound : List ℕ) where
+    abbrev listed : List ℕ
+    listed = keptBelow (table .first) (table .last) d m
+
+    abbrev value : ℕ → Float
+    value e = componentSum (datumOf (opOf (setup .op)) (a .rd) (g (j + e) .rd))
+
+    abbrev binNumber : Float → ℕ
+    binNumber x = numberOr (insideBin (setup .edges) list hints table x)
+
+    distant-fits : (e : ℕ) → e < m → fits binary64 (getD d e nan) ≡ true
+    distant-fits e h = ap (fits binary64) (distant e h) ∙ is-true _ (add-fits binary64 _ _)
+
+    found-number : (e : ℕ) → e < m → lt (getD d e nan) (table .first) ≡ false → le (table .last) (getD d e nan) ≡ false
+        → binNumber (getD d e nan) ≡ numberOr (builtBin (setup .edges) list (squaredDiffNorm a (g (j + e))))
+    found-number e h p q =
+        ap numberOr (inside-bin list [] hints table (setup .edges) (getD d e nan) tabled (distant-fits e h) p q ∙ ap (builtBin (setup .edges) list) (distant e h))
+
+    pair-placed : (q : ℕ) → q < length listed → (t : List Float)
+        → pairPlaced setup (length valueEdges) (getD (valueNumbers (setup .reducer) valueEdges (map value listed) valueFound) q 0)
+        (numberedPair setup a (g (j + getD listed q 0)) (getD (map binNumber (map (λ e. getD d e nan) listed)) q 0)) t
+        ≡ placeStep j (getD listed q 0) t
+    unfolding pairStep builtPair
+    pair-placed q h t =
+        let e = getD listed q 0 in
+        let n = kept-all (λ e. binNumber (getD d e nan) ≡ numberOr (builtBin (setup .edges) list (squaredDiffNorm a (g (j + e))))) (table .first) (table .last) d m found-number q h in
+        let v = getD (valueNumbers (setup .reducer) valueEdges (map value listed) valueFound) q 0 in
+        ap (λ (x : ℕ). pairPlaced setup (length valueEdges) v (numberedPair setup a (g (j + e)) x) t) (at-maps (λ e. getD d e nan) binNumber listed q 0 nan 0 h ∙ n)
+        ∙ numbered setup valueEdges a (g (j + e)) v t (builtBin (setup .edges) list (squaredDiffNorm a (g (j + e)))) (λ r k. value-at (setup .reducer) r valueEdges value listed valueFound q h k)
+
+    listed-row : (s : List Float) → placesAdded setup list valueEdges hints table a g j listed (picked d listed) valueFound s ≡ rowAdded setup list valueEdges a g j m s
+    unfolding placesAdded picked pairValues
+    listed-row s =
+        placed-all setup (length valueEdges) a g j listed (map binNumber (map (λ e. getD d e nan) listed)) (valueNumbers (setup .reducer) valueEdges (map value listed) valueFound) (placeStep j) pair-placed s
+        ∙ kept-row (table .first) (table .last) (tabled .ends) d j m s distant
+
+    pub batch-row : (places : List ℕ) (x s q : List Float) → places ≡ listed → x ≡ picked d listed → q ≡ placesAdded setup list valueEdges hints table a g j places x valueFound s
+        → q ≡ rowAdded setup list valueEdges a g j m s
+    batch-row places x s q e k r = r ∙ (λ i. placesAdded setup list valueEdges hints table a g j (e i) (k i) valueFound s) ∙ listed-row s
+
+-- ---- values
+module _ (a : points.Point) (g : ℕ → points.Point) (j : ℕ) (op : PairOperation) where
+  pub values-are : (places : List ℕ) (d : List Float) → length d ≡ length places → ((q : ℕ) → q < length places → getD d q nan ≡ componentSum (datumOf (opOf op) (a .rd) (g (j + getD places q 0) .rd)))
+      → d ≡ pairValues a g j op places
+  unfolding pairValues
+  values-are places d e h =
+      ext-getD nan d (map (λ p. componentSum (datumOf (opOf op) (a .rd) (g (j + p) .rd))) places) (e ∙ sym (length-map places _))
+      (λ q l. h q (omega arith) ∙ sym (at-map (λ p. componentSum (datumOf (opOf op) (a .rd) (g (j + p) .rd))) places q 0 nan (omega arith)))
+
+  pub values-fit : (places : List ℕ) (i : ℕ) → T (fits binary64 (getD (pairValues a g j op places) i nan))
+  unfolding pairValues
+  values-fit [] i = nan-fits binary64
+  values-fit (p ∷ l) zero = add-fits binary64 _ _
+  values-fit (p ∷ l) (suc i) = values-fit l i
+
+-- ---- lookups
+pub no-keys : (list : List Float) → [] ≡ keysOf list []
+unfolding keysOf keysTo
+no-keys list = refl
+
+module _ (kind : Reducer) (edges : List Float) (found : List ℕ) (x : List Float) where
+  pub value-mean0 : kind ≡ Comp0Mean → found ≡ valueNumbers kind edges x found
+  unfolding valueNumbers
+  value-mean0 h = rw h
+
+  pub value-mean : kind ≡ ComponentSumMean → found ≡ valueNumbers kind edges x found
+  unfolding valueNumbers
+  value-mean h = rw h
+
+  -- y is what the values were written to, q and r what the two lookups left
+  pub value-found : (e : BuiltEdges) (hints : List ℕ) (table : Table) (room y : List Float) (q r : List ℕ) → kind ≡ ComponentSumHistogram e → TabledValues kind edges table []
+      → ((i : ℕ) → T (fits binary64 (getD x i nan))) → length room ≡ length y → length found ≡ length y → y ≡ x → q ≡ foundOf e edges hints table y room found → r ≡ droppedOf table y q
+      → r ≡ valueNumbers kind edges x found
+  unfolding valueNumbers
+  value-found e hints table room y q r h t f k l same p z =
+      z ∙ ap (droppedOf table y) p
+      ∙ dropped-bin edges [] hints table e (subst (λ (k : Reducer). TabledValues k edges table []) h t) y room found (λ i. subst (λ (w : List Float). T (fits binary64 (getD w i nan))) (sym same) (f i)) k l
+      ∙ ap (map (λ v. numberOr (builtBin e edges v))) same ∙ (rw h)
+
+-- the pairs added by what the lookups left
+pub places-added : (setup : Setup) (list valueEdges : List Float) (hints : List ℕ) (table : Table) (a : points.Point) (g : ℕ → points.Point) (j : ℕ) (places : List ℕ) (d room : List Float)
+    (found valueFound u v : List ℕ) (s q : List Float) → length room ≡ length d → length found ≡ length d → u ≡ foundOf (setup .edges) list hints table d room found
+    → v ≡ valueNumbers (setup .reducer) valueEdges (pairValues a g j (setup .op) places) valueFound → q ≡ placedTo a g j setup (length valueEdges) places u v (length places) s
+    → q ≡ placesAdded setup list valueEdges hints table a g j places d valueFound s
+unfolding placesAdded
+places-added setup list valueEdges hints table a g j places d room found valueFound u v s q h k e f r =
+    r ∙ (λ i. placedTo a g j setup (length valueEdges) places ((e ∙ found-map d room found (setup .edges) list hints table h k) i) (f i) (length places) s)

@@ -1,6 +1,6 @@
 -- Pairs, and the loops over them, turn by turn.
 use mathlib.Core.Path.{_≡_, refl, sym, ap, _∙_}
-use mathlib.Core.Option.{Option}
+use mathlib.Core.Option.{some}
 use mathlib.Core.Bool.{Bool, true, false, true≢false}
 use mathlib.Core.List.{List, map}
 use Prim.Native.Nat.{ℕ, zero, suc, _+_, _-_, _<_, _≤_}
@@ -10,6 +10,7 @@ use native.Mathlib.Omega.{arith}
 use lib.ListN.{length}
 use lib.Ieee.{Float}
 use Rattle.definitions.specs.Lists.{range, upto}
+use Rattle.definitions.specs.Bins.{below}
 use Rattle.definitions.specs.Points as points
 use Rattle.definitions.specs.Points.{UnstructuredPoints, pointAt}
 use Rattle.definitions.specs.Reducer as definitions
@@ -20,40 +21,31 @@ use Rattle.bins.specs.declared.BinIndex.the-variants.{At, None}
 use Rattle.bins.specs.Answers.{indexOf}
 use Rattle.reducer.specs.declared.Datum.{Datum}
 use Rattle.reducer.specs.Readings.{opOf, theDatum, readingOf}
-use Rattle.reducer.specs.Consume.{valueBin, consumedAt}
-use Rattle.reducer.proofs.Ways.{consumed-found}
+use Rattle.reducer.specs.Consume.{consumedAt}
 use Rattle.unstructured.specs.declared.Pair.{Pair}
 use Rattle.unstructured.specs.declared.Pair.the-variants.{Kept, Dropped}
 use Rattle.unstructured.specs.declared.Point.{Point}
 use Rattle.unstructured.specs.declared.Setup.{Setup}
-use Rattle.unstructured.specs.Pairs.{thePair, thePoint, firstPartner, pairAdded, pairStep, rowAdded, filled}
-use Rattle.unstructured.specs.Batches.{lookedBin, lookedPair}
+use Rattle.unstructured.specs.Pairs.{thePair, thePoint, firstPartner, pairStep, rowAdded, filled}
+use Rattle.unstructured.specs.Batches.{numberedPair, pairPlaced}
 
 -- ---- one pair
-module _ (setup : Setup) (list : List Float) (a b : Point) (x : Float) (r : BinIndex) (h : indexOf r ≡ lookedBin (setup .edges) list x) where
+module _ (setup : Setup) (a b : Point) (n : ℕ) (r : BinIndex) (h : indexOf r ≡ below (setup .«n_states») (some n)) where
   pub pair-kept : (i : ℕ) (d : Datum) → r ≡ At i → theDatum d ≡ datumOf (opOf (setup .op)) (readingOf (a .rd)) (readingOf (b .rd))
-      → definitions.kept i (theDatum d) ≡ lookedPair setup list (thePoint a) (thePoint b) x
-  unfolding lookedPair
+      → definitions.kept i (theDatum d) ≡ numberedPair setup (thePoint a) (thePoint b) n
+  unfolding numberedPair
   pair-kept i d t e = rw (← h, t, ← e)
 
-  pub pair-dropped : r ≡ None → definitions.dropped ≡ lookedPair setup list (thePoint a) (thePoint b) x
-  unfolding lookedPair
+  pub pair-dropped : r ≡ None → definitions.dropped ≡ numberedPair setup (thePoint a) (thePoint b) n
+  unfolding numberedPair
   pair-dropped t = rw (← h, t)
 
-pub pair-added : (setup : Setup) (list valueEdges : List Float) (a b : Point) (x : Float) (pair : Pair) (s q : List Float) → thePair pair ≡ lookedPair setup list (thePoint a) (thePoint b) x
-    → q ≡ pairAdded setup valueEdges (thePair pair) s → q ≡ pairAdded setup valueEdges (lookedPair setup list (thePoint a) (thePoint b) x) s
-pair-added setup list valueEdges a b x pair s q e h = h ∙ ap (λ (y : definitions.Pair). pairAdded setup valueEdges y s) e
+pub add-kept : (setup : Setup) (m n : ℕ) (pair : Pair) (i : ℕ) (c0 c1 c2 w : Float) (s q : List Float) → pair ≡ Kept i c0 c1 c2 w
+    → q ≡ consumedAt (setup .reducer) m (some n) (setup .«n_states») i (record { c0 = c0; c1 = c1; c2 = c2; weight = w }) s → q ≡ pairPlaced setup m n (thePair pair) s
+add-kept setup m n pair i c0 c1 c2 w s q e h = h ∙ (rw e)
 
--- f is the answer of `value_bin`
-pub add-kept : (setup : Setup) (valueEdges : List Float) (pair : Pair) (i : ℕ) (c0 c1 c2 w : Float) (f : BinIndex) (s q : List Float) → pair ≡ Kept i c0 c1 c2 w
-    → indexOf f ≡ valueBin (setup .reducer) valueEdges (record { c0 = c0; c1 = c1; c2 = c2; weight = w })
-    → q ≡ consumedAt (setup .reducer) (length valueEdges) (indexOf f) (setup .«n_states») i (record { c0 = c0; c1 = c1; c2 = c2; weight = w }) s → q ≡ pairAdded setup valueEdges (thePair pair) s
-add-kept setup valueEdges pair i c0 c1 c2 w f s q m e h =
-    h ∙ ap (λ (o : Option ℕ). consumedAt (setup .reducer) (length valueEdges) o (setup .«n_states») i (record { c0 = c0; c1 = c1; c2 = c2; weight = w }) s) e
-    ∙ sym (consumed-found (setup .reducer) valueEdges (setup .«n_states») i (record { c0 = c0; c1 = c1; c2 = c2; weight = w }) s) ∙ (rw m)
-
-pub add-dropped : (setup : Setup) (valueEdges : List Float) (pair : Pair) (s : List Float) → pair ≡ Dropped → s ≡ pairAdded setup valueEdges (thePair pair) s
-add-dropped setup valueEdges pair s m = rw m
+pub add-dropped : (setup : Setup) (m n : ℕ) (pair : Pair) (s : List Float) → pair ≡ Dropped → s ≡ pairPlaced setup m n (thePair pair) s
+add-dropped setup m n pair s e = rw e
 
 -- ---- one row
 pub partner-auto : (auto : Bool) (i : ℕ) → auto ≡ true → i + 1 ≡ firstPartner auto i

@@ -1,25 +1,25 @@
 -- What the rows in batches promise and ask: lookups by tables, the places of a batch that are not outside the ends.
 use mathlib.Core.Path.{_≡_}
-use mathlib.Core.Option.{Option, some}
-use mathlib.Core.List.{List, [], _∷_, _++_}
+use mathlib.Core.Option.{some}
+use mathlib.Core.List.{List, [], _∷_, _++_, map}
 use mathlib.Core.Bool.{Bool, true, false}
-use Prim.Native.Nat.{ℕ, zero, suc, _+_, _-_, _*_}
-use lib.ListN.{getD}
-use lib.Ieee.{Float, binary64, nan, lt, le, sub, div}
-use Rattle.definitions.specs.Floats.{asUsize}
+use Prim.Native.Nat.{ℕ, zero, suc, _+_, _-_, _*_, _<_, _≤_}
+use lib.ListN.{length, getD}
+use lib.Ieee.{Float, nan, lt, le}
 use Rattle.definitions.specs.Bins.{below}
 use Rattle.definitions.specs.Points as Points
 use Rattle.definitions.specs.Reducer as Reducer
-use Rattle.definitions.specs.Reducer.{pairIn, datumOf}
-use Rattle.bins.specs.declared.RegularBinEdges.{RegularBinEdges}
-use Rattle.reducer.specs.declared.BuiltEdges.{BuiltEdges}
-use Rattle.reducer.specs.declared.BuiltEdges.the-variants.{Regular, Irregular}
+use Rattle.definitions.specs.Reducer.{kept, dropped, pairIn, datumOf, componentSum}
+use Rattle.reducer.specs.declared.PairOperation.{PairOperation}
+use Rattle.reducer.specs.declared.Reducer as declared
+use Rattle.reducer.specs.declared.Reducer.the-variants.{Comp0Mean, ComponentSumMean, ComponentSumHistogram}
 use Rattle.reducer.specs.Readings.{opOf}
-use Rattle.reducer.specs.Consume.{builtBin}
+use Rattle.reducer.specs.Consume.{builtBin, consumedAt}
+use Rattle.edge_table.specs.declared.Table.{Table}
+use Rattle.edge_table.specs.Table.{numberOr, insideBin}
 use Rattle.edge_table.specs.Tabled.{Usable, UsableValues, Tabled, TabledValues}
 use Rattle.unstructured.specs.declared.Setup.{Setup}
 use Rattle.unstructured.specs.declared.Tables.{Tables}
-use Rattle.unstructured.specs.Pairs.{pairAdded}
 
 -- the run's edges and value edges can be looked up by tables
 pub record UsableRun (setup : Setup) (list valueEdges : List Float) : Type 0 where
@@ -31,21 +31,13 @@ pub record TabledRun (setup : Setup) (list valueEdges : List Float) (tables : Ta
   pub edges : Tabled (setup .edges) list (tables .edges) keys
   pub values : TabledValues (setup .reducer) valueEdges (tables .values) valueKeys
 
--- ---- a distance that is not outside the ends, looked up
-abbrev pub quotient : RegularBinEdges → Float → Float
-quotient e x = div binary64 (sub binary64 x (e .min)) (e .«bin_size»)
-
--- what the lookup wants of a distance
-abbrev pub looked : BuiltEdges → Float → Float
-looked (Regular e) x = quotient e x
-looked Irregular x = x
-
-unfoldable pub lookedBin : BuiltEdges → List Float → Float → Option ℕ
-lookedBin (Regular e) list x = below (e .«n_bins») (some (asUsize x))
-lookedBin Irregular list x = builtBin Irregular list x
-
-unfoldable pub lookedPair : Setup → List Float → Points.Point → Points.Point → Float → Reducer.Pair
-lookedPair setup list a b x = pairIn (lookedBin (setup .edges) list x) (datumOf (opOf (setup .op)) (a .rd) (b .rd))
+-- a batch of m points has room in each slice
+pub record Rooms (m : ℕ) (d room : List Float) (places found valueFound : List ℕ) : Type 0 where
+  pub distances : m ≤ length d
+  pub quotients : m ≤ length room
+  pub listed : m ≤ length places
+  pub bins : m ≤ length found
+  pub values : m ≤ length valueFound
 
 -- ---- the places of a batch
 abbrev pub bit : Bool → ℕ
@@ -56,7 +48,7 @@ bit false = 0
 abbrev pub inside : Float → Float → Float → ℕ
 inside first last x = (1 - bit (lt x first)) * (1 - bit (le last x))
 
-abbrev pub also : ℕ → List ℕ → ℕ → List ℕ
+abbrev pub also : {A : Type 0} → ℕ → List A → A → List A
 also zero l e = l
 also (suc n) l e = l ++ (e ∷ [])
 
@@ -65,11 +57,44 @@ unfoldable pub keptBelow : Float → Float → List Float → ℕ → List ℕ
 keptBelow first last d zero = []
 keptBelow first last d (suc e) = also (inside first last (getD d e nan)) (keptBelow first last d e) e
 
--- f at each place of a list, in order
-unfoldable pub overList : (ℕ → List Float → List Float) → List ℕ → List Float → List Float
-overList f [] s = s
-overList f (e ∷ l) s = overList f l (f e s)
+-- what d has at the places
+unfoldable pub picked : List Float → List ℕ → List Float
+picked d places = map (λ e. getD d e nan) places
 
--- the pair of a with place e of a batch whose first point is j; d holds what the lookup wants
-unfoldable pub listedStep : Setup → List Float → List Float → Points.Point → (ℕ → Points.Point) → ℕ → List Float → ℕ → List Float → List Float
-listedStep setup list valueEdges a g j d e s = pairAdded setup valueEdges (lookedPair setup list a (g (j + e)) (getD d e nan)) s
+-- each is one of m
+pub record Listed (m : ℕ) (places : List ℕ) : Type 0 where
+  pub few : length places ≤ m
+  pub below : (q : ℕ) → q < length places → getD places q 0 < m
+
+-- ---- pairs by the numbers of their bins, which are past the bins where there is none
+unfoldable pub numberedPair : Setup → Points.Point → Points.Point → ℕ → Reducer.Pair
+numberedPair setup a b number = pairIn (below (setup .«n_states») (some number)) (datumOf (opOf (setup .op)) (a .rd) (b .rd))
+
+-- m is the length of the value edges, number that of the value's bin
+abbrev pub pairPlaced : Setup → ℕ → ℕ → Reducer.Pair → List Float → List Float
+pairPlaced setup m number (kept b d) s = consumedAt (setup .reducer) m (some number) (setup .«n_states») b d s
+pairPlaced setup m number dropped s = s
+
+-- ---- a is paired with places of a batch whose first point is j
+module _ (a : Points.Point) (g : ℕ → Points.Point) (j : ℕ) where
+  -- the values of the pairs
+  unfoldable pub pairValues : PairOperation → List ℕ → List Float
+  pairValues op places = map (λ e. componentSum (datumOf (opOf op) (a .rd) (g (j + e) .rd))) places
+
+  -- the first n pairs
+  unfoldable pub placedTo : Setup → ℕ → List ℕ → List ℕ → List ℕ → ℕ → List Float → List Float
+  placedTo setup m places found valueFound zero s = s
+  placedTo setup m places found valueFound (suc q) s =
+      pairPlaced setup m (getD valueFound q 0) (numberedPair setup a (g (j + getD places q 0)) (getD found q 0)) (placedTo setup m places found valueFound q s)
+
+-- the numbers of the values' bins; a mean has none
+unfoldable pub valueNumbers : declared.Reducer → List Float → List Float → List ℕ → List ℕ
+valueNumbers Comp0Mean edges x found = found
+valueNumbers ComponentSumMean edges x found = found
+valueNumbers (ComponentSumHistogram e) edges x found = map (λ v. numberOr (builtBin e edges v)) x
+
+-- the pairs of a with places of a batch, whose distances are d
+unfoldable pub placesAdded : Setup → List Float → List Float → List ℕ → Table → Points.Point → (ℕ → Points.Point) → ℕ → List ℕ → List Float → List ℕ → List Float → List Float
+placesAdded setup list valueEdges hints table a g j places d valueFound s =
+    placedTo a g j setup (length valueEdges) places (map (λ x. numberOr (insideBin (setup .edges) list hints table x)) d)
+    (valueNumbers (setup .reducer) valueEdges (pairValues a g j (setup .op) places) valueFound) (length places) s

@@ -1,6 +1,5 @@
 // Two-point runs over unstructured points.
 use bins::BinIndex;
-use bins::RegularBinEdges;
 use edge_table::Table;
 use parallel_serial::Shape;
 use reducer::BuiltEdges;
@@ -23,15 +22,13 @@ ghost use Rattle.definitions.specs.Run.{merged};
 ghost use Rattle.definitions.specs.Rules.{refusal, met, overPoints, pointRules, overSets, setRules, runRules, step};
 ghost use Rattle.state.specs.Readings.{numberOf};
 ghost use Rattle.bins.specs.Answers.{indexOf};
-ghost use Rattle.reducer.specs.declared.BuiltEdges.the-variants.{Irregular};
-ghost use Rattle.reducer.specs.Readings.{edgesOf, kindOf, theDatum};
-ghost use Rattle.reducer.specs.Consume.{builtBin, valueBin};
-ghost use Rattle.edge_table.specs.Tabled.{Tabled, TabledValues};
+ghost use Rattle.reducer.specs.Readings.{edgesOf, kindOf};
+ghost use Rattle.edge_table.specs.Tabled.{TabledValues};
 ghost use Rattle.parallel_serial.specs.Drive.{zeroPack, addedScratch};
 ghost use Rattle.parallel_serial.proofs.Refusals.{Drivable};
 ghost use Rattle.unstructured.specs.Readings.{strideOf, pointsOf, setsRun, autoRun, crossRun};
 ghost use Rattle.unstructured.specs.Pairs.{thePair, thePoint, pointIn, pointsIn, Holds, Readable, Held, firstPartner, setsFor, pairAdded, rowAdded, filled, setsNumber};
-ghost use Rattle.unstructured.specs.Batches.{UsableRun, TabledRun, quotient, looked, lookedBin, lookedPair, listedStep, overList, keptBelow, inside};
+ghost use Rattle.unstructured.specs.Batches.{UsableRun, TabledRun, Rooms, Listed, inside, keptBelow, picked, numberedPair, pairPlaced, pairValues, placedTo, valueNumbers, placesAdded};
 
 // The stride of positions and values; left out it is the number of points.
 pub enum Stride {
@@ -194,53 +191,11 @@ fn one_of(n: usize, i: usize) -> BinIndex
     BinIndex::None
 }
 
-// The bin in irregular edges: the hint's, mostly.
-fn irregular_bin(list: &[f64], keys: &[u64], hints: &[u8], table: Table, x: f64) -> BinIndex
-    requires { ⌜ Tabled Irregular (now list) table (now keys) ⌝ }
-    ensures { λ r. ⌜ indexOf r ≡ builtBin Irregular (now (list .entry)) x ⌝ }
+// The pair of two points, whose bin has this number; dropped if that is past the bins.
+fn pair_of(setup: Setup, a: Point, b: Point, number: usize) -> Pair
+    ensures { λ r. ⌜ thePair r ≡ numberedPair setup (thePoint a) (thePoint b) number ⌝ }
 {
-    if hints.len() == 0 {
-        return edge_table::searched_bin(list, keys, table, x);
-    }
-    match edge_table::guessed_bin(list.len(), keys, hints, table, x) {
-        BinIndex::At(bin) => BinIndex::At(bin),
-        BinIndex::None => edge_table::searched_bin(list, keys, table, x),
-    }
-}
-
-// The bin of a distance that is not outside the edges; in regular edges x is its quotient.
-fn look_up(
-    edges: BuiltEdges,
-    list: &[f64],
-    keys: &[u64],
-    hints: &[u8],
-    table: Table,
-    x: f64,
-) -> BinIndex
-    requires { ⌜ Tabled edges (now list) table (now keys) ⌝ }
-    ensures { λ r. ⌜ indexOf r ≡ lookedBin edges (now (list .entry)) x ⌝ }
-{
-    match edges {
-        BuiltEdges::Regular(e) => one_of(e.n_bins, floats::as_usize(x)),
-        BuiltEdges::Irregular => irregular_bin(list, keys, hints, table, x),
-    }
-}
-
-fn pair_of(
-    setup: Setup,
-    list: &[f64],
-    keys: &[u64],
-    hints: &[u8],
-    table: Table,
-    a: Point,
-    b: Point,
-    x: f64,
-) -> Pair
-    requires { ⌜ Tabled (setup .edges) (now list) table (now keys) ⌝ }
-    ensures { λ r. ⌜ thePair r ≡ lookedPair setup (now (list .entry)) (thePoint a) (thePoint b) x ⌝ }
-{
-    let edges = setup.edges;
-    match look_up(edges, list, keys, hints, table, x) {
+    match one_of(setup.n_states, number) {
         BinIndex::At(bin) => {
             let op = setup.op;
             let first = a.rd;
@@ -252,66 +207,18 @@ fn pair_of(
     }
 }
 
-fn bin_in(
-    edges: BuiltEdges,
-    list: &[f64],
-    keys: &[u64],
-    hints: &[u8],
-    table: Table,
-    x: f64,
-) -> BinIndex
-    requires { ⌜ Tabled edges (now list) table (now keys) ⌝ }
-    ensures { λ r. ⌜ indexOf r ≡ builtBin edges (now (list .entry)) x ⌝ }
-{
-    match edges {
-        BuiltEdges::Regular(_) => reducer::bin_of(edges, list, x),
-        BuiltEdges::Irregular => irregular_bin(list, keys, hints, table, x),
-    }
-}
-
-// The bin of a datum's value, which a histogram has.
-fn value_bin(
-    kind: Reducer,
-    value_edges: &[f64],
-    keys: &[u64],
-    hints: &[u8],
-    table: Table,
-    datum: Datum,
-) -> BinIndex
-    requires { ⌜ TabledValues kind (now «value_edges») table (now keys) ⌝ }
-    ensures { λ r. ⌜ indexOf r ≡ valueBin kind (now («value_edges» .entry)) (theDatum datum) ⌝ }
-{
-    match kind {
-        Reducer::Comp0Mean => BinIndex::None,
-        Reducer::ComponentSumMean => BinIndex::None,
-        Reducer::ComponentSumHistogram(edges) => {
-            let value = reducer::component_sum(datum);
-            bin_in(edges, value_edges, keys, hints, table, value)
-        }
-    }
-}
-
-fn add_pair(
-    setup: Setup,
-    value_edges: &[f64],
-    keys: &[u64],
-    hints: &[u8],
-    table: Table,
-    pair: Pair,
-    scratch: &mut [f64],
-)
-    requires { ⌜ TabledValues (setup .reducer) (now «value_edges») table (now keys) ⌝ }
-    ensures { λ _. ⌜ now (scratch .exit) ≡ pairAdded setup (now («value_edges» .entry)) (thePair pair) (now (scratch .entry)) ⌝ }
+// number is that of the value's bin, which a histogram has.
+fn add_pair(setup: Setup, value_len: usize, number: usize, pair: Pair, scratch: &mut [f64])
+    ensures { λ _. ⌜ now (scratch .exit) ≡ pairPlaced setup «value_len» number (thePair pair) (now (scratch .entry)) ⌝ }
 {
     match pair {
         Pair::Kept(bin, c0, c1, c2, weight) => {
             let kind = setup.reducer;
             let datum = Datum { c0, c1, c2, weight };
-            let found = value_bin(kind, value_edges, keys, hints, table, datum);
             reducer::consume_at(
                 kind,
-                value_edges.len(),
-                found,
+                value_len,
+                BinIndex::At(number),
                 setup.n_states,
                 bin,
                 datum,
@@ -320,37 +227,6 @@ fn add_pair(
         }
         Pair::Dropped => {}
     }
-}
-
-fn add_points(
-    setup: Setup,
-    list: &[f64],
-    value_edges: &[f64],
-    keys: &[u64],
-    hints: &[u8],
-    value_keys: &[u64],
-    value_hints: &[u8],
-    tables: Tables,
-    a: Point,
-    b: Point,
-    x: f64,
-    scratch: &mut [f64],
-)
-    requires { ⌜ TabledRun setup (now list) (now «value_edges») tables (now keys) (now «value_keys») ⌝ }
-    ensures { λ _. ⌜ now (scratch .exit) ≡ pairAdded setup (now («value_edges» .entry)) (lookedPair setup (now (list .entry)) (thePoint a) (thePoint b) x) (now (scratch .entry)) ⌝ }
-{
-    let table = tables.edges;
-    let value_table = tables.values;
-    let pair = pair_of(setup, list, keys, hints, table, a, b, x);
-    add_pair(
-        setup,
-        value_edges,
-        value_keys,
-        value_hints,
-        value_table,
-        pair,
-        scratch,
-    );
 }
 
 // ---- rows in batches: distances first, then the places within the ends of the edges, then their pairs
@@ -385,54 +261,129 @@ fn flag(table: Table, value: f64) -> usize
     (1 - ((value < table.first) as usize)) * (1 - ((table.last <= value) as usize))
 }
 
-// The places of the first m distances that are not outside, in order, without a branch.
-fn list_inside(table: Table, d: &[f64], m: usize, places: &mut [usize]) -> usize
-    requires { ⌜ (m < length (now places)) × (m ≤ length (now d)) ⌝ }
-    ensures { λ r. ⌜ (r ≤ m) × (take r (now (places .exit)) ≡ keptBelow (table .first) (table .last) (now (d .entry)) m) ⌝ }
+// The places of the first m distances that are not outside, in order, and their distances at the front of d; without a branch.
+fn list_inside(table: Table, m: usize, d: &mut [f64], places: &mut [usize]) -> usize
+    requires { ⌜ (m ≤ length (now d)) × (m ≤ length (now places)) ⌝ }
+    ensures { λ r. ⌜ (r ≤ m) × (take r (now (places .exit)) ≡ keptBelow (table .first) (table .last) (now (d .entry)) m)
+        × (take r (now (d .exit)) ≡ picked (now (d .entry)) (keptBelow (table .first) (table .last) (now (d .entry)) m)) ⌝ }
 {
     let mut c = 0;
     let mut e = 0;
     while e < m {
+        let value = d[e];
         places[c] = e;
-        c = c + flag(table, d[e]);
+        d[c] = value;
+        c = c + flag(table, value);
         e += 1;
     }
     c
 }
 
-// The quotients that regular edges truncate, in place of m distances.
-fn quotients(edges: RegularBinEdges, m: usize, d: &mut [f64])
-    requires { ⌜ m ≤ length (now d) ⌝ }
-    ensures { λ _. ⌜ ((e : ℕ) → e < m → getD (now (d .exit)) e nan ≡ quotient edges (getD (now (d .entry)) e nan)) ⌝ }
+// The values of the pairs of a with the listed points of a batch, whose first point is j.
+fn pair_values(
+    op: PairOperation,
+    a: Point,
+    positions: &[f64],
+    values: &[f64],
+    weights: &[f64],
+    stride: usize,
+    j: usize,
+    m: usize,
+    places: &[usize],
+    d: &mut [f64],
+)
+    requires { ⌜ Readable (now positions) (now values) (now weights) (j + m) stride ⌝ }
+    requires { ⌜ Listed m (now places) ⌝ }
+    requires { ⌜ length (now d) ≡ length (now places) ⌝ }
+    ensures { λ _. ⌜ now (d .exit) ≡ pairValues (thePoint a) (pointIn (now (positions .entry)) (now (values .entry)) (now (weights .entry)) stride) j op (now (places .entry)) ⌝ }
 {
-    let min = edges.min;
-    let size = edges.bin_size;
-    let mut e = 0;
-    while e < m {
-        d[e] = (d[e] - min) / size;
-        e += 1;
+    let first = a.rd;
+    let mut q = 0;
+    while q < places.len() {
+        let b = point_at(positions, values, weights, stride, j + places[q]);
+        let second = b.rd;
+        d[q] = reducer::component_sum(reducer::datum_of(op, first, second));
+        q += 1;
     }
 }
 
-// What the lookup wants in place of m distances.
-fn prepare(edges: BuiltEdges, m: usize, d: &mut [f64])
-    requires { ⌜ m ≤ length (now d) ⌝ }
-    ensures { λ _. ⌜ ((e : ℕ) → e < m → getD (now (d .exit)) e nan ≡ looked edges (getD (now (d .entry)) e nan)) ⌝ }
+// The numbers of the values' bins, which a histogram has. d and room are room.
+fn value_bins(
+    setup: Setup,
+    value_edges: &[f64],
+    hints: &[u8],
+    table: Table,
+    a: Point,
+    positions: &[f64],
+    values: &[f64],
+    weights: &[f64],
+    stride: usize,
+    j: usize,
+    m: usize,
+    places: &[usize],
+    d: &mut [f64],
+    room: &mut [f64],
+    found: &mut [usize],
+)
+    requires { ⌜ TabledValues (setup .reducer) (now «value_edges») table [] ⌝ }
+    requires { ⌜ Readable (now positions) (now values) (now weights) (j + m) stride ⌝ }
+    requires { ⌜ Listed m (now places) ⌝ }
+    requires { ⌜ (length (now d) ≡ length (now places)) × (length (now room) ≡ length (now places)) × (length (now found) ≡ length (now places)) ⌝ }
+    ensures { λ _. ⌜ now (found .exit) ≡ valueNumbers (setup .reducer) (now («value_edges» .entry))
+        (pairValues (thePoint a) (pointIn (now (positions .entry)) (now (values .entry)) (now (weights .entry)) stride) j (setup .op) (now (places .entry))) (now (found .entry)) ⌝ }
 {
-    match edges {
-        BuiltEdges::Regular(e) => quotients(e, m, d),
-        BuiltEdges::Irregular => {}
+    let kind = setup.reducer;
+    let op = setup.op;
+    match kind {
+        Reducer::Comp0Mean => {}
+        Reducer::ComponentSumMean => {}
+        Reducer::ComponentSumHistogram(edges) => {
+            pair_values(
+                op, a, positions, values, weights, stride, j, m, places, &mut *d,
+            );
+            edge_table::bins_of(edges, value_edges, hints, table, &*d, room, &mut *found);
+            edge_table::drop_outside(table, &*d, &mut *found);
+        }
     }
 }
 
-// The pairs of a with the listed points of a batch, whose first point is j.
+// The pairs of a with the listed points, whose bins and whose values' bins have been found.
 fn add_listed(
+    setup: Setup,
+    value_len: usize,
+    a: Point,
+    positions: &[f64],
+    values: &[f64],
+    weights: &[f64],
+    stride: usize,
+    j: usize,
+    m: usize,
+    places: &[usize],
+    found: &[usize],
+    value_found: &[usize],
+    scratch: &mut [f64],
+)
+    requires { ⌜ Readable (now positions) (now values) (now weights) (j + m) stride ⌝ }
+    requires { ⌜ Listed m (now places) ⌝ }
+    requires { ⌜ (length (now found) ≡ length (now places)) × (length (now «value_found») ≡ length (now places)) ⌝ }
+    ensures { λ _. ⌜ now (scratch .exit) ≡ placedTo (thePoint a) (pointIn (now (positions .entry)) (now (values .entry)) (now (weights .entry)) stride) j setup «value_len»
+        (now (places .entry)) (now (found .entry)) (now («value_found» .entry)) (length (now (places .entry))) (now (scratch .entry)) ⌝ }
+{
+    let mut q = 0;
+    while q < places.len() {
+        let b = point_at(positions, values, weights, stride, j + places[q]);
+        let pair = pair_of(setup, a, b, found[q]);
+        add_pair(setup, value_len, value_found[q], pair, &mut *scratch);
+        q += 1;
+    }
+}
+
+// The pairs of a with the listed points, whose distances are in d. d, room, found and value_found are room.
+fn add_places(
     setup: Setup,
     list: &[f64],
     value_edges: &[f64],
-    keys: &[u64],
     hints: &[u8],
-    value_keys: &[u64],
     value_hints: &[u8],
     tables: Tables,
     a: Point,
@@ -442,37 +393,56 @@ fn add_listed(
     stride: usize,
     j: usize,
     m: usize,
-    d: &[f64],
     places: &[usize],
-    c: usize,
+    d: &mut [f64],
+    room: &mut [f64],
+    found: &mut [usize],
+    value_found: &mut [usize],
     scratch: &mut [f64],
 )
-    requires { ⌜ TabledRun setup (now list) (now «value_edges») tables (now keys) (now «value_keys») ⌝ }
+    requires { ⌜ TabledRun setup (now list) (now «value_edges») tables [] [] ⌝ }
     requires { ⌜ Readable (now positions) (now values) (now weights) (j + m) stride ⌝ }
-    requires { ⌜ (m ≤ length (now d)) × (c ≤ length (now places)) × ((q : ℕ) → q < c → getD (now places) q 0 < m) ⌝ }
-    ensures { λ _. ⌜ now (scratch .exit) ≡ overList (listedStep setup (now (list .entry)) (now («value_edges» .entry)) (thePoint a)
-        (pointIn (now (positions .entry)) (now (values .entry)) (now (weights .entry)) stride) j (now (d .entry))) (take c (now (places .entry))) (now (scratch .entry)) ⌝ }
+    requires { ⌜ Listed m (now places) ⌝ }
+    requires { ⌜ (length (now d) ≡ length (now places)) × (length (now room) ≡ length (now places)) × (length (now found) ≡ length (now places)) × (length (now «value_found») ≡ length (now places)) ⌝ }
+    ensures { λ _. ⌜ now (scratch .exit) ≡ placesAdded setup (now (list .entry)) (now («value_edges» .entry)) (now (hints .entry)) (tables .edges) (thePoint a)
+        (pointIn (now (positions .entry)) (now (values .entry)) (now (weights .entry)) stride) j (now (places .entry)) (now (d .entry)) (now («value_found» .entry)) (now (scratch .entry)) ⌝ }
 {
-    let mut q = 0;
-    while q < c {
-        let e = places[q];
-        let b = point_at(positions, values, weights, stride, j + e);
-        add_points(
-            setup,
-            list,
-            value_edges,
-            keys,
-            hints,
-            value_keys,
-            value_hints,
-            tables,
-            a,
-            b,
-            d[e],
-            scratch,
-        );
-        q += 1;
-    }
+    let edges = setup.edges;
+    let table = tables.edges;
+    let value_table = tables.values;
+    edge_table::bins_of(edges, list, hints, table, &*d, &mut *room, &mut *found);
+    value_bins(
+        setup,
+        value_edges,
+        value_hints,
+        value_table,
+        a,
+        positions,
+        values,
+        weights,
+        stride,
+        j,
+        m,
+        places,
+        d,
+        room,
+        &mut *value_found,
+    );
+    add_listed(
+        setup,
+        value_edges.len(),
+        a,
+        positions,
+        values,
+        weights,
+        stride,
+        j,
+        m,
+        places,
+        &*found,
+        &*value_found,
+        scratch,
+    );
 }
 
 fn batch_size(left: usize, most: usize) -> usize
@@ -482,14 +452,12 @@ fn batch_size(left: usize, most: usize) -> usize
     if left < most { left } else { most }
 }
 
-// The pairs of a with m points from j on. d and places are room.
+// The pairs of a with m points from j on. All but scratch is room.
 fn add_batch(
     setup: Setup,
     list: &[f64],
     value_edges: &[f64],
-    keys: &[u64],
     hints: &[u8],
-    value_keys: &[u64],
     value_hints: &[u8],
     tables: Tables,
     a: Point,
@@ -500,27 +468,26 @@ fn add_batch(
     j: usize,
     m: usize,
     d: &mut [f64],
+    room: &mut [f64],
     places: &mut [usize],
+    found: &mut [usize],
+    value_found: &mut [usize],
     scratch: &mut [f64],
 )
-    requires { ⌜ TabledRun setup (now list) (now «value_edges») tables (now keys) (now «value_keys») ⌝ }
+    requires { ⌜ TabledRun setup (now list) (now «value_edges») tables [] [] ⌝ }
     requires { ⌜ Readable (now positions) (now values) (now weights) (j + m) stride ⌝ }
-    requires { ⌜ (m ≤ length (now d)) × (m < length (now places)) ⌝ }
+    requires { ⌜ Rooms m (now d) (now room) (now places) (now found) (now «value_found») ⌝ }
     ensures { λ _. ⌜ now (scratch .exit) ≡ rowAdded setup (now (list .entry)) (now («value_edges» .entry)) (thePoint a)
         (pointIn (now (positions .entry)) (now (values .entry)) (now (weights .entry)) stride) j m (now (scratch .entry)) ⌝ }
 {
-    let edges = setup.edges;
     let table = tables.edges;
     distances(a, positions, values, weights, stride, j, m, &mut *d);
-    let c = list_inside(table, &*d, m, &mut *places);
-    prepare(edges, m, &mut *d);
-    add_listed(
+    let c = list_inside(table, m, &mut *d, &mut *places);
+    add_places(
         setup,
         list,
         value_edges,
-        keys,
         hints,
-        value_keys,
         value_hints,
         tables,
         a,
@@ -530,9 +497,11 @@ fn add_batch(
         stride,
         j,
         m,
-        &*d,
-        &*places,
-        c,
+        &places[..c],
+        &mut d[..c],
+        &mut room[..c],
+        &mut found[..c],
+        &mut value_found[..c],
         scratch,
     );
 }
@@ -542,9 +511,7 @@ fn add_batches(
     setup: Setup,
     list: &[f64],
     value_edges: &[f64],
-    keys: &[u64],
     hints: &[u8],
-    value_keys: &[u64],
     value_hints: &[u8],
     tables: Tables,
     a: Point,
@@ -555,12 +522,15 @@ fn add_batches(
     from: usize,
     n: usize,
     d: &mut [f64],
+    room: &mut [f64],
     places: &mut [usize],
+    found: &mut [usize],
+    value_found: &mut [usize],
     scratch: &mut [f64],
 )
-    requires { ⌜ TabledRun setup (now list) (now «value_edges») tables (now keys) (now «value_keys») ⌝ }
+    requires { ⌜ TabledRun setup (now list) (now «value_edges») tables [] [] ⌝ }
     requires { ⌜ Readable (now positions) (now values) (now weights) n stride ⌝ }
-    requires { ⌜ (0 < length (now d)) × (length (now d) < length (now places)) ⌝ }
+    requires { ⌜ (0 < length (now d)) × Rooms (length (now d)) (now d) (now room) (now places) (now found) (now «value_found») ⌝ }
     ensures { λ _. ⌜ now (scratch .exit) ≡ rowAdded setup (now (list .entry)) (now («value_edges» .entry)) (thePoint a)
         (pointIn (now (positions .entry)) (now (values .entry)) (now (weights .entry)) stride) from (n - from) (now (scratch .entry)) ⌝ }
 {
@@ -572,9 +542,7 @@ fn add_batches(
             setup,
             list,
             value_edges,
-            keys,
             hints,
-            value_keys,
             value_hints,
             tables,
             a,
@@ -585,7 +553,10 @@ fn add_batches(
             j,
             m,
             &mut *d,
+            &mut *room,
             &mut *places,
+            &mut *found,
+            &mut *value_found,
             &mut *scratch,
         );
         j += m;
@@ -600,15 +571,13 @@ fn first_partner(auto: bool, i: usize) -> usize
     if auto { i + 1 } else { 0 }
 }
 
-// All pairs of the run, in batches. d and places are room.
+// All pairs of the run, in batches. All after b_n but scratch is room.
 fn fill_batches(
     auto: bool,
     setup: Setup,
     list: &[f64],
     value_edges: &[f64],
-    keys: &[u64],
     hints: &[u8],
-    value_keys: &[u64],
     value_hints: &[u8],
     tables: Tables,
     a_positions: &[f64],
@@ -622,14 +591,17 @@ fn fill_batches(
     b_stride: usize,
     b_n: usize,
     d: &mut [f64],
+    room: &mut [f64],
     places: &mut [usize],
+    found: &mut [usize],
+    value_found: &mut [usize],
     scratch: &mut [f64],
 )
-    requires { ⌜ TabledRun setup (now list) (now «value_edges») tables (now keys) (now «value_keys») ⌝ }
+    requires { ⌜ TabledRun setup (now list) (now «value_edges») tables [] [] ⌝ }
     requires { ⌜ Readable (now «a_positions») (now «a_values») (now «a_weights») «a_n» «a_stride» ⌝ }
     requires { ⌜ Readable (now «b_positions») (now «b_values») (now «b_weights») «b_n» «b_stride» ⌝ }
     requires { ⌜ (auto ≡ true → (pointIn (now «a_positions») (now «a_values») (now «a_weights») «a_stride» ≡ pointIn (now «b_positions») (now «b_values») (now «b_weights») «b_stride») × («a_n» ≡ «b_n»)) ⌝ }
-    requires { ⌜ (0 < length (now d)) × (length (now d) < length (now places)) ⌝ }
+    requires { ⌜ (0 < length (now d)) × Rooms (length (now d)) (now d) (now room) (now places) (now found) (now «value_found») ⌝ }
     ensures { λ _. ⌜ now (scratch .exit) ≡ filled setup (now (list .entry)) (now («value_edges» .entry)) auto
         (pointsIn (now («a_positions» .entry)) (now («a_values» .entry)) (now («a_weights» .entry)) «a_stride» «a_n»)
         (pointsIn (now («b_positions» .entry)) (now («b_values» .entry)) (now («b_weights» .entry)) «b_stride» «b_n») (now (scratch .entry)) ⌝ }
@@ -642,9 +614,7 @@ fn fill_batches(
             setup,
             list,
             value_edges,
-            keys,
             hints,
-            value_keys,
             value_hints,
             tables,
             a,
@@ -655,32 +625,17 @@ fn fill_batches(
             start,
             b_n,
             &mut *d,
+            &mut *room,
             &mut *places,
+            &mut *found,
+            &mut *value_found,
             &mut *scratch,
         );
         i += 1;
     }
 }
 
-// How many keys pay for n second points. None where a lookup wants none.
-fn key_count(edges: BuiltEdges, len: usize, n: usize) -> usize
-    ensures { λ r. ⌜ r ≤ 257 ⌝ }
-{
-    match edges {
-        BuiltEdges::Regular(_) => 0,
-        BuiltEdges::Irregular => {
-            if n < 4 {
-                return 0;
-            }
-            if len < 34 {
-                return 33;
-            }
-            257
-        }
-    }
-}
-
-// How many hints do.
+// How many hints pay for n second points. None where a lookup wants none.
 fn hint_count(edges: BuiltEdges, n: usize) -> usize
     ensures { λ r. ⌜ r ≤ 4096 ⌝ }
 {
@@ -692,16 +647,6 @@ fn hint_count(edges: BuiltEdges, n: usize) -> usize
             }
             4096
         }
-    }
-}
-
-fn value_key_count(kind: Reducer, len: usize, n: usize) -> usize
-    ensures { λ r. ⌜ r ≤ 257 ⌝ }
-{
-    match kind {
-        Reducer::Comp0Mean => 0,
-        Reducer::ComponentSumMean => 0,
-        Reducer::ComponentSumHistogram(edges) => key_count(edges, len, n),
     }
 }
 
@@ -742,19 +687,20 @@ fn fill_tabled(
     b_weights: &[f64],
     b_stride: usize,
     b_n: usize,
-    keys: &mut [u64],
     hints: &mut [u8],
-    value_keys: &mut [u64],
     value_hints: &mut [u8],
     d: &mut [f64],
+    room: &mut [f64],
     places: &mut [usize],
+    found: &mut [usize],
+    value_found: &mut [usize],
     scratch: &mut [f64],
 )
     requires { ⌜ UsableRun setup (now list) (now «value_edges») ⌝ }
     requires { ⌜ Readable (now «a_positions») (now «a_values») (now «a_weights») «a_n» «a_stride» ⌝ }
     requires { ⌜ Readable (now «b_positions») (now «b_values») (now «b_weights») «b_n» «b_stride» ⌝ }
     requires { ⌜ (auto ≡ true → (pointIn (now «a_positions») (now «a_values») (now «a_weights») «a_stride» ≡ pointIn (now «b_positions») (now «b_values») (now «b_weights») «b_stride») × («a_n» ≡ «b_n»)) ⌝ }
-    requires { ⌜ (0 < length (now d)) × (length (now d) < length (now places)) ⌝ }
+    requires { ⌜ (0 < length (now d)) × Rooms (length (now d)) (now d) (now room) (now places) (now found) (now «value_found») ⌝ }
     ensures { λ _. ⌜ now (scratch .exit) ≡ filled setup (now (list .entry)) (now («value_edges» .entry)) auto
         (pointsIn (now («a_positions» .entry)) (now («a_values» .entry)) (now («a_weights» .entry)) «a_stride» «a_n»)
         (pointsIn (now («b_positions» .entry)) (now («b_values» .entry)) (now («b_weights» .entry)) «b_stride» «b_n») (now (scratch .entry)) ⌝ }
@@ -763,8 +709,6 @@ fn fill_tabled(
     let kind = setup.reducer;
     let edges = edge_table::table_of(built, list, span_of(hints.len()));
     let values = edge_table::value_table_of(kind, value_edges, span_of(value_hints.len()));
-    edge_table::keys_of(list, &mut *keys);
-    edge_table::keys_of(value_edges, &mut *value_keys);
     fill_hints(list, edges, &mut *hints);
     fill_hints(value_edges, values, &mut *value_hints);
     let tables = Tables { edges, values };
@@ -773,9 +717,7 @@ fn fill_tabled(
         setup,
         list,
         value_edges,
-        &*keys,
         &*hints,
-        &*value_keys,
         &*value_hints,
         tables,
         a_positions,
@@ -789,81 +731,15 @@ fn fill_tabled(
         b_stride,
         b_n,
         &mut *d,
+        &mut *room,
         &mut *places,
+        &mut *found,
+        &mut *value_found,
         scratch,
     );
 }
 
 // Few second points: little room, and no hints.
-fn fill_some(
-    auto: bool,
-    setup: Setup,
-    list: &[f64],
-    value_edges: &[f64],
-    a_positions: &[f64],
-    a_values: &[f64],
-    a_weights: &[f64],
-    a_stride: usize,
-    a_n: usize,
-    b_positions: &[f64],
-    b_values: &[f64],
-    b_weights: &[f64],
-    b_stride: usize,
-    b_n: usize,
-    scratch: &mut [f64],
-)
-    requires { ⌜ UsableRun setup (now list) (now «value_edges») ⌝ }
-    requires { ⌜ Readable (now «a_positions») (now «a_values») (now «a_weights») «a_n» «a_stride» ⌝ }
-    requires { ⌜ Readable (now «b_positions») (now «b_values») (now «b_weights») «b_n» «b_stride» ⌝ }
-    requires { ⌜ (auto ≡ true → (pointIn (now «a_positions») (now «a_values») (now «a_weights») «a_stride» ≡ pointIn (now «b_positions») (now «b_values») (now «b_weights») «b_stride») × («a_n» ≡ «b_n»)) ⌝ }
-    ensures { λ _. ⌜ now (scratch .exit) ≡ filled setup (now (list .entry)) (now («value_edges» .entry)) auto
-        (pointsIn (now («a_positions» .entry)) (now («a_values» .entry)) (now («a_weights» .entry)) «a_stride» «a_n»)
-        (pointsIn (now («b_positions» .entry)) (now («b_values» .entry)) (now («b_weights» .entry)) «b_stride» «b_n») (now (scratch .entry)) ⌝ }
-{
-    let edges = setup.edges;
-    let kind = setup.reducer;
-    let k = key_count(edges, list.len(), b_n);
-    let h = 0;
-    let value_k = value_key_count(kind, value_edges.len(), b_n);
-    let value_h = 0;
-    let mut keys = [0u64; 257];
-    let mut hints = [0u8; 1];
-    let mut value_keys = [0u64; 257];
-    let mut value_hints = [0u8; 1];
-    let mut d = [0.0f64; 32];
-    let mut places = [0usize; 33];
-    fill_tabled(
-        auto,
-        setup,
-        list,
-        value_edges,
-        a_positions,
-        a_values,
-        a_weights,
-        a_stride,
-        a_n,
-        b_positions,
-        b_values,
-        b_weights,
-        b_stride,
-        b_n,
-        &mut keys[..k],
-        &mut hints[..h],
-        &mut value_keys[..value_k],
-        &mut value_hints[..value_h],
-        &mut d,
-        &mut places,
-        scratch,
-    );
-}
-
-fn at_most_33(n: usize) -> usize
-    ensures { λ r. ⌜ r ≤ 33 ⌝ }
-{
-    if n < 33 { n } else { 33 }
-}
-
-// The same where there are few edges too.
 fn fill_few(
     auto: bool,
     setup: Setup,
@@ -889,18 +765,15 @@ fn fill_few(
         (pointsIn (now («a_positions» .entry)) (now («a_values» .entry)) (now («a_weights» .entry)) «a_stride» «a_n»)
         (pointsIn (now («b_positions» .entry)) (now («b_values» .entry)) (now («b_weights» .entry)) «b_stride» «b_n») (now (scratch .entry)) ⌝ }
 {
-    let edges = setup.edges;
-    let kind = setup.reducer;
-    let k = at_most_33(key_count(edges, list.len(), b_n));
     let h = 0;
-    let value_k = at_most_33(value_key_count(kind, value_edges.len(), b_n));
     let value_h = 0;
-    let mut keys = [0u64; 33];
     let mut hints = [0u8; 1];
-    let mut value_keys = [0u64; 33];
     let mut value_hints = [0u8; 1];
     let mut d = [0.0f64; 32];
-    let mut places = [0usize; 33];
+    let mut room = [0.0f64; 32];
+    let mut places = [0usize; 32];
+    let mut found = [0usize; 32];
+    let mut value_found = [0usize; 32];
     fill_tabled(
         auto,
         setup,
@@ -916,12 +789,13 @@ fn fill_few(
         b_weights,
         b_stride,
         b_n,
-        &mut keys[..k],
         &mut hints[..h],
-        &mut value_keys[..value_k],
         &mut value_hints[..value_h],
         &mut d,
+        &mut room,
         &mut places,
+        &mut found,
+        &mut value_found,
         scratch,
     );
 }
@@ -954,16 +828,15 @@ fn fill_many(
 {
     let edges = setup.edges;
     let kind = setup.reducer;
-    let k = key_count(edges, list.len(), b_n);
     let h = hint_count(edges, b_n);
-    let value_k = value_key_count(kind, value_edges.len(), b_n);
     let value_h = value_hint_count(kind, b_n);
-    let mut keys = [0u64; 257];
     let mut hints = [0u8; 4096];
-    let mut value_keys = [0u64; 257];
     let mut value_hints = [0u8; 4096];
     let mut d = [0.0f64; 256];
-    let mut places = [0usize; 257];
+    let mut room = [0.0f64; 256];
+    let mut places = [0usize; 256];
+    let mut found = [0usize; 256];
+    let mut value_found = [0usize; 256];
     fill_tabled(
         auto,
         setup,
@@ -979,12 +852,13 @@ fn fill_many(
         b_weights,
         b_stride,
         b_n,
-        &mut keys[..k],
         &mut hints[..h],
-        &mut value_keys[..value_k],
         &mut value_hints[..value_h],
         &mut d,
+        &mut room,
         &mut places,
+        &mut found,
+        &mut value_found,
         scratch,
     );
 }
@@ -995,13 +869,6 @@ fn few_points(edges: BuiltEdges, n: usize) -> bool {
         BuiltEdges::Regular(_) => n < 33,
         BuiltEdges::Irregular => n < 20,
     }
-}
-
-fn few_edges(len: usize, value_len: usize) -> bool {
-    if len > 33 {
-        return false;
-    }
-    value_len < 34
 }
 
 // All pairs of the run, first point ascending, second ascending within it. In auto the two sets are one.
@@ -1032,27 +899,7 @@ fn fill(
 {
     let edges = setup.edges;
     if few_points(edges, b_n) {
-        if few_edges(list.len(), value_edges.len()) {
-            fill_few(
-                auto,
-                setup,
-                list,
-                value_edges,
-                a_positions,
-                a_values,
-                a_weights,
-                a_stride,
-                a_n,
-                b_positions,
-                b_values,
-                b_weights,
-                b_stride,
-                b_n,
-                scratch,
-            );
-            return;
-        }
-        fill_some(
+        fill_few(
             auto,
             setup,
             list,

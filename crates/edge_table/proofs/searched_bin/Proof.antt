@@ -1,4 +1,4 @@
-use Rattle.edge_table.proofs.Ways.{searched-outside, searched-right, searched-plain}
+use Rattle.edge_table.proofs.Ways.{searched-outside, searched-right, searched-edges}
 use borrow.Author.Needs.{needs}
 use Rattle.edge_table.proofs.searched_bin.Statement.{statement}
 use Rattle.edge_table.proofs.searched_bin.Tie as tie
@@ -8,7 +8,7 @@ use Rattle.edge_table.proofs.is_enclosed.Reads as is-enclosed-reads
 use Rattle.edge_table.proofs.is_outside.Reads as is-outside-reads
 use Rattle.edge_table.proofs.search.Reads as search-reads
 use Rattle.edge_table.proofs.key_of.Reads as key-of-reads
-use Rattle.reducer.proofs.bin_of.Reads as bin-of-reads
+use Rattle.edge_table.proofs.halved_bin.Reads as halved-bin-reads
 use Rattle.reducer.proofs.n_bins.Reads as n-bins-reads
 
 is-outside-requires : tie.Need-is-outside-requires
@@ -33,11 +33,11 @@ returns-2 : tie.Need-returns-2
 returns-2 c =
     searched-right _ _ _ _ (c .before .before .before .before .before .before .is-outside .ensures) (c .before .before .before .before .before .if1 .left) _ (c .before .before .before .key-of .ensures) _ _ (c .before .before .before .before .n-bins .ensures) _ (c .before .before .search .ensures .0) _ (c .before .is-enclosed .ensures) (c .if2 .taken)
 
-bin-of-requires : tie.Need-bin-of-requires
-bin-of-requires c κs = search needs
+halved-bin-requires : tie.Need-halved-bin-requires
+halved-bin-requires c κs = search needs
 
 returns-3 : tie.Need-returns-3
-returns-3 c = search searched-plain
+returns-3 c = search searched-edges
 
 pub searched-bin-spec : {M : Type 1} → statement M
-searched-bin-spec = tie.close (tie.spec is-outside-requires returns n-bins-requires key-of-requires search-requires is-enclosed-requires returns-2 bin-of-requires returns-3)
+searched-bin-spec = tie.close (tie.spec is-outside-requires returns n-bins-requires key-of-requires search-requires is-enclosed-requires returns-2 halved-bin-requires returns-3)

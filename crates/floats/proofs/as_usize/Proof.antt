@@ -1,12 +1,13 @@
 use lib.Ieee.{ofBits, neg}
 use Rattle.floats.proofs.Laws.{toUnsigned-low, toUnsigned-high}
 use borrow.Author.Needs.{needs}
+use denote.Floats.{passes}
 use Rattle.floats.proofs.as_usize.Statement.{statement}
 use Rattle.floats.proofs.as_usize.Tie as tie
 
 truncating-f64-to-u64-requires : tie.Need-truncating-f64-to-u64-requires
 unfolding ofBits neg
-truncating-f64-to-u64-requires c κs = search needs
+truncating-f64-to-u64-requires c κs = search passes
 
 returns : tie.Need-returns
 returns c = search needs

@@ -17,7 +17,7 @@ add-offset-at : tie.Need-add-offset-at
 add-offset-at c =
     let s = c .before .before .before in
     let h = auto-small (s .args .a) (s .args .i) _ (c .before .before .auto-len .ensures) (c .before .if1 .taken) in
-    sum-fits num tt (held num tt (c .middle .ensures)) (literal 1 (omega arith)) (omega arith)
+    sum-fits num tt (held num tt (c .middle .ensures)) (literal _ (omega arith)) (omega arith)
 
 cast-offset-at : tie.Need-cast-offset-at
 cast-offset-at c = search needs
@@ -26,13 +26,13 @@ add-offset-at-2 : tie.Need-add-offset-at-2
 add-offset-at-2 c =
     let s = c .before .before .before in
     let h = auto-small (s .args .a) (s .args .i) _ (c .before .before .auto-len .ensures) (c .before .if1 .taken) in
-    sum-fits num tt (sum num tt (held num tt (c .middle .ensures)) (literal 1 (omega arith)) (omega arith)) (natural num tt (s .args .i) (omega arith)) h
+    sum-fits num tt (sum num tt (held num tt (c .middle .ensures)) (literal _ (omega arith)) (omega arith)) (natural num tt (s .args .i) (omega arith)) (omega arith)
 
 offset-at-requires : tie.Need-offset-at-requires
 offset-at-requires c κs =
     let s = c .before .before .before in
     let h = auto-small (s .args .a) (s .args .i) _ (c .before .before .auto-len .ensures) (c .before .if1 .taken) in
-    (search auto-fits, (search auto-fits, own _ _ (sum num tt (sum num tt (held num tt (c .middle .ensures)) (literal 1 (omega arith)) (omega arith)) (natural num tt (s .args .i) (omega arith)) h)))
+    (search auto-fits, (search auto-fits, own _ _ (sum num tt (sum num tt (held num tt (c .middle .ensures)) (literal _ (omega arith)) (omega arith)) (natural num tt (s .args .i) (omega arith)) (omega arith))))
 
 returns : tie.Need-returns
 returns c =

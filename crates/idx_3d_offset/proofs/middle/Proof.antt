@@ -9,7 +9,7 @@ full-len-requires : tie.Need-full-len-requires
 full-len-requires c κs = search needs
 
 div-result : tie.Need-div-result
-div-result c = (omega arith, quotient-fits num tt (held num tt (c .full-len .ensures)) (literal 2 (omega arith)))
+div-result c = (omega arith, quotient-fits num tt (held num tt (c .full-len .ensures)) (literal _ (omega arith)))
 
 returns : tie.Need-returns
 returns c = auto-counts (c .before .args .a) (c .before .pre) _ (quotient num tt (held num tt (c .full-len .ensures)) (literal 2 (omega arith)))

@@ -1,4 +1,5 @@
-use Rattle.idx_3d_offset.proofs.Ranges.{less-fits, less-cast, more-fits, start-a-below, start-a-above}
+use native.Mathlib.Omega.{arith}
+use Rattle.idx_3d_offset.proofs.Ranges.{less-fits, less-cast, less-small, start-a-below, start-a-above}
 use Rattle.idx_3d_offset.proofs.start_a.Statement.{statement}
 use Rattle.idx_3d_offset.proofs.start_a.Tie as tie
 
@@ -9,7 +10,7 @@ cast-result : tie.Need-cast-result
 cast-result c = less-cast (c .before .args .d) (c .before .fits .d) (c .if1 .taken)
 
 add-result : tie.Need-add-result
-add-result c = search more-fits
+add-result c = record { fits = omega (arith, less-small (c .before .args .d) (c .before .fits .d) (c .if1 .taken)) }
 
 returns : tie.Need-returns
 returns c = search start-a-below

@@ -63,7 +63,15 @@ same-length : tie.Need-same-length
 same-length c = search needs
 
 returns : tie.Need-returns
-returns c = search records-curve
+returns c =
+    let run = c .before .before in
+    let weights = run .before .before .before .before .before .before in
+    let values = weights .before .before .before in
+    let positions = values .before .before .before in
+    let room = positions .before .before in
+    records-curve _ (room .before .before .before .before .before .before .pre) _ _ _ _ _ _
+    (room .before .before .point-numbers .ensures) (room .before .point-numbers2 .ensures) (room .weight-numbers .ensures)
+    _ _ _ (positions .decode-three .ensures) (values .decode-three2 .ensures) (weights .decode .ensures) (run .run .ensures)
 
 pub run-records-spec : {M : Type 1} → statement M
 run-records-spec =

@@ -1,4 +1,4 @@
-use Rattle.twopoint_cartesian.proofs.Walk.{seq-reach, number-some, number-none}
+use Rattle.twopoint_cartesian.proofs.Walk.{axes-same, seq-reach, number-some, number-none}
 use borrow.Author.Needs.{needs}
 use Rattle.twopoint_cartesian.proofs.add_number.Statement.{statement}
 use Rattle.twopoint_cartesian.proofs.add_number.Tie as tie
@@ -17,9 +17,7 @@ enum-known-o c = search needs
 
 -- src/lib.rt:424:26
 add-offset-requires : tie.Need-add-offset-requires
-add-offset-requires c κs =
-    let s = c .before .before .before .before .before .before .before .before .before .before .before .before .before .before .before .before .before .before .before .before .before in
-    (s .pre .0, (s .pre .1 .0, (seq-reach _ _ _ _ (s .pre .1 .1 .0) (s .pre .1 .1 .1 .0) _ _ (c .before .before .before .before .before .seq-get .ensures) (c .before .before .before .o .given .1), s .pre .1 .1 .1 .1)))
+add-offset-requires c κs = let s = c .before .before .before .before .before .before .before .before .before .before .before .before .before .before .before .before .before .before .before .before .before in (s .pre .0, (s .pre .1 .0, (seq-reach _ _ _ _ (axes-same _ _ _ (s .pre .1 .1 .0)) (s .pre .1 .1 .1 .0) _ _ (c .before .before .before .before .before .seq-get .ensures) (c .before .before .before .o .given .1), (s .pre .1 .1 .0, s .pre .1 .1 .1 .1))))
 
 enum-told : tie.Need-enum-told
 enum-told c = search needs

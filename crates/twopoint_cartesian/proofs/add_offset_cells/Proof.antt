@@ -4,7 +4,7 @@ use Rattle.twopoint_cartesian.proofs.add_offset_cells.Statement.{statem
 use Rattle.twopoint_cartesian.proofs.add_offset_cells.Tie as tie
 use Rattle.twopoint_cartesian.proofs.add_offset_cells.Reads as reads
 use Rattle.twopoint_cartesian.proofs.add_offset_cells.Lts as lts
-use Rattle.twopoint_cartesian.proofs.add_block.Reads as add-block-reads
+use Rattle.twopoint_cartesian.proofs.add_planes.Reads as add-planes-reads
 use Rattle.twopoint_cartesian.proofs.first_of_a.Reads as first-of-a-reads
 use Rattle.twopoint_cartesian.proofs.first_of_b.Reads as first-of-b-reads
 use Rattle.twopoint_cartesian.proofs.overlap.Reads as overlap-reads
@@ -28,8 +28,8 @@ overlap-requires c κs =
     reach-near _ _ (s .pre .0) (s .pre .1 .0) _ (s .pre .1 .1 .0)
 
 -- src/lib.rt:269:5
-add-block-requires : tie.Need-add-block-requires
-add-block-requires c κs =
+add-planes-requires : tie.Need-add-planes-requires
+add-planes-requires c κs =
     let s = c .before .before .before .before .before .before .before .before .before .before .before .before .before .before .before .before in
     (answers-a _ _ (s .pre .0) (s .pre .1 .0) _ (s .pre .1 .1 .0) _ (c .before .overlap .ensures) _ (c .before .before .before .first-of-a .ensures), (answers-b _ _ (s .pre .0) (s .pre .1 .0) _ (s .pre .1 .1 .0) _ (c .before .overlap .ensures) _ (c .before .before .first-of-b .ensures), s .pre .1 .1 .1))
 
@@ -41,7 +41,7 @@ same-length c = search needs
 returns : tie.Need-returns
 returns c =
     let s = c .before .before .before .before .before .before .before .before .before .before .before .before .before .before .before .before .before .before .before in
-    cells-done _ _ _ _ (s .pre .0) (s .pre .1 .0) _ _ _ _ _ _ (c .before .before .before .before .before .before .first-of-a .ensures) (c .before .before .before .before .before .first-of-b .ensures) (c .before .before .before .before .overlap .ensures) (c .before .before .add-block .ensures)
+    cells-done _ _ _ _ (s .pre .0) (s .pre .1 .0) _ _ _ _ _ _ (c .before .before .before .before .before .before .first-of-a .ensures) (c .before .before .before .before .before .first-of-b .ensures) (c .before .before .before .before .overlap .ensures) (c .before .before .add-planes .ensures)
 
 pub add-offset-cells-spec : {M : Type 1} → statement M
 add-offset-cells-spec =
@@ -50,6 +50,6 @@ add-offset-cells-spec =
     first-of-a-requires
     first-of-b-requires
     overlap-requires
-    add-block-requires
+    add-planes-requires
     same-length
     returns)

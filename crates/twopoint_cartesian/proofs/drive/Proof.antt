@@ -1,4 +1,4 @@
-use Rattle.twopoint_cartesian.proofs.Runs.{used-fits, used-lent, used-part, state-lent, same-axes, findable, roomy, driven}
+use Rattle.twopoint_cartesian.proofs.Runs.{used-fits, used-lent, used-part, state-lent, same-blocks, findable, roomy, driven}
 use borrow.Author.Needs.{needs}
 use Rattle.twopoint_cartesian.proofs.drive.Statement.{statement}
 use Rattle.twopoint_cartesian.proofs.drive.Tie as tie
@@ -54,7 +54,7 @@ slice-aggregate-run-in-2 c =
 run-in-requires : tie.Need-run-in-requires
 run-in-requires c κs =
     let s = c .before .before .before .before .before .before .before .before .before .before .before .before .before .before .before .before .before .before in
-    (s .pre .0, (s .pre .1 .0, (same-axes _ _ _ (s .pre .1 .1 .0), (findable (s .args .edges) (s .args .list .now) (s .args .kind) (s .args .value-edges .now) (s .args .op) (s .args .shape) _ _ _ _ (s .pre .1 .1 .1) (c .before .before .before .before .before .before .before .before .before .shared-slice-known9 .given) (c .before .before .before .before .before .before .before .before .shared-slice-known10 .given) (c .before .before .before .before .before .before .build-edges .ensures) (c .before .before .before .before .before .build-reducer .ensures), roomy (s .args .edges) (s .args .list .now) (s .args .kind) (s .args .value-edges .now) (s .args .op) (s .args .shape) _ _ _ _ _ (s .pre .1 .1 .1) (c .before .before .before .before .before .before .build-edges .ensures) (c .before .before .before .before .zero-state .ensures) (c .before .before .before .zeros .ensures)))))
+    (s .pre .0, (s .pre .1 .0, (same-blocks _ _ _ (s .pre .1 .1 .0), (findable (s .args .edges) (s .args .list .now) (s .args .kind) (s .args .value-edges .now) (s .args .op) (s .args .shape) _ _ _ _ (s .pre .1 .1 .1) (c .before .before .before .before .before .before .before .before .before .shared-slice-known9 .given) (c .before .before .before .before .before .before .before .before .shared-slice-known10 .given) (c .before .before .before .before .before .before .build-edges .ensures) (c .before .before .before .before .before .build-reducer .ensures), roomy (s .args .edges) (s .args .list .now) (s .args .kind) (s .args .value-edges .now) (s .args .op) (s .args .shape) _ _ _ _ _ (s .pre .1 .1 .1) (c .before .before .before .before .before .before .build-edges .ensures) (c .before .before .before .before .before .build-reducer .ensures) (c .before .before .before .before .zero-state .ensures) (c .before .before .before .zeros .ensures)))))
 
 -- src/lib.rt:727:1
 same-length : tie.Need-same-length

@@ -34,7 +34,7 @@ loop-holds c =
 add-number-requires : tie.Need-add-number-requires Inv-loop μ-loop
 add-number-requires c κs =
     let s = c .before .before .before .before .before .before .before .before .before .before .before .before .before .before .before .before .before .before .before .before in
-    (s .pre .0, (s .pre .1 .0, (s .pre .1 .1 .0, (omega arith, (s .pre .1 .1 .1 .0, roomy-same _ _ _ _ _ _ (c .before .before .before .loop .inv .1) (c .before .before .before .loop .inv .2) (s .pre .1 .1 .1 .1))))))
+    (s .pre .0, (s .pre .1 .0, (s .pre .1 .1 .0, (omega arith, (s .pre .1 .1 .1 .0, roomy-same _ _ _ _ _ _ _ (c .before .before .before .loop .inv .1) (c .before .before .before .loop .inv .2) (s .pre .1 .1 .1 .1))))))
 
 -- src/lib.rt:457:9
 add-i : tie.Need-add-i Inv-loop μ-loop
