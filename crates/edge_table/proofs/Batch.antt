@@ -1,21 +1,21 @@
 -- Lookups of many values: each way through the code, the loops over a batch, and the edges' own bins.
 use mathlib.Core.Path.{_≡_, refl, sym, ap, _∙_, subst}
 use mathlib.Core.Logic.{⊎-elim}
-use mathlib.Core.Option.{Option, none, some}
-use mathlib.Core.Bool.{Bool, true, false, not, cond, _&&_, _||_, true≢false}
+use mathlib.Core.Option.{Option, some}
+use mathlib.Core.Bool.{Bool, true, false, cond, _&&_, _||_, true≢false}
 use mathlib.Core.List.{List, [], _∷_, _++_, map, map-map, append-nil}
 use Prim.Native.Nat.{ℕ, zero, suc, _+_, _-_, _*_, _<_, _≤_}
 use native.Mathlib.Numerals.{add-one}
 use native.Mathlib.Nat.{le-refl, le-of-lt, eq-or-lt-of-le}
 use native.Mathlib.Omega.{arith}
-use lib.Dec.{leb, ltb, T}
+use lib.Dec.{ltb, T}
 use lib.ListN.{length, getD, set, take, drop, drop-of-length-le, length-map}
 use lib.Seq.{drop-cons, append-snoc, take-suc-set, take-all, drop-set-lt}
 use lib.Ieee.{Float, lt, le, isNan, nan, inf, fin, up, down, binary64, fits}
 use lib.Ieee.Scale.{finite}
 use lib.Ieee.Fits.{and-l, and-r}
 use lib.Ieee.Bits.{is-true}
-use borrow.Author.Tests.{lt-ltb, le-ltb, le-leb, lt-leb, eq-eqb, ne-eqb, ltb-true, leb-true}
+use borrow.Author.Tests.{lt-ltb, le-ltb, le-leb, lt-leb, eq-eqb, ne-eqb, ltb-true}
 use Rattle.definitions.specs.Lists.{at}
 use Rattle.definitions.specs.Floats.{asUsize}
 use Rattle.definitions.specs.Bins.{below, regularIndex}
@@ -294,14 +294,14 @@ module _ (es : List Float) (u : Searchable es) (x : Float) (f : fits binary64 x 
   unfolding hintedBin
   hinted-found hints table = let h = getD hints (placeOf table x) 0 in tested (between es x h) h _ _ (between-bin h) (near-found h)
 
-module _ (es : List Float) (keys hints : List ℕ) (table : Table) where
-  pub inside-bin : (edges : BuiltEdges) (x : Float) → Tabled edges es table keys → fits binary64 x ≡ true → lt x (table .first) ≡ false → le (table .last) x ≡ false
+module _ (es : List Float) (hints : List ℕ) (table : Table) where
+  pub inside-bin : (edges : BuiltEdges) (x : Float) → Tabled edges es table → fits binary64 x ≡ true → lt x (table .first) ≡ false → le (table .last) x ≡ false
       → insideBin edges es hints table x ≡ builtBin edges es x
   unfolding insideBin builtBin regularIndex
   inside-bin (Regular e) x t f low high = rw (sym (ap (lt x) (t .ends .0)) ∙ low, sym (ap (λ (y : Float). le y x) (t .ends .1)) ∙ high)
   inside-bin Irregular x t f low high = hinted-found es (t .usable) x f (λ n. rw (n, sym (ap (lt x) (t .ends .0)) ∙ low, sym (ap (λ (y : Float). le y x) (t .ends .1)) ∙ high)) hints table
 
-  module _ (edges : BuiltEdges) (t : Tabled edges es table keys) where
+  module _ (edges : BuiltEdges) (t : Tabled edges es table) where
     kept-bin : (x : Float) → fits binary64 x ≡ true → kept table x (numberOr (insideBin edges es hints table x)) ≡ numberOr (builtBin edges es x)
     unfolding kept
     kept-bin x f = go (lt x (table .first)) (le (table .last) x) refl refl

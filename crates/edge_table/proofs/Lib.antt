@@ -1,3 +1,4 @@
 pub mod Ways
 pub mod Lookup
 pub mod Batch
+pub mod Cuts

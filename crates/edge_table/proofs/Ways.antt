@@ -1,46 +1,27 @@
 -- Each way through the code, and the definition that its answer meets.
 use mathlib.Core.Path.{_≡_, refl, sym, ap, _∙_}
-use mathlib.Core.Option.{Option, none, some}
-use mathlib.Core.Bool.{Bool, true, false, _&&_}
+use mathlib.Core.Option.{Option, none}
+use mathlib.Core.Bool.{Bool, true, false}
 use mathlib.Core.List.{List}
-use Prim.Native.Nat.{ℕ, suc, _+_, _-_, _*_, _/_, _%_, _^_, _<_, _≤_, zero-le}
+use Prim.Native.Nat.{ℕ, suc, _+_, _-_, _*_, _/_, _%_, _^_, _<_, _≤_}
 use native.Mathlib.Nat.{zero-mul, one-mul}
 use native.Mathlib.Numerals.{add-one}
 use native.Mathlib.Omega.{arith}
-use lib.Dec.{leb, ltb}
+use lib.Dec.{ltb}
 use lib.ListN.{length, getD, set, List·getD-eq-default}
 use lib.Ieee.{Float, lt, le, isNan, binary64, sub, div, ofBits, toBits}
-use borrow.Author.Tests.{lt-ltb, le-ltb, le-leb, lt-leb, ltb-true, ltb-false}
+use borrow.Author.Tests.{lt-ltb, le-ltb, ltb-true, ltb-false}
 use Rattle.definitions.specs.Lists.{at}
 use Rattle.floats.specs.Order.{orderKey}
 use Rattle.floats.proofs.Keys.{key-plus, key-minus}
 use Rattle.bins.specs.declared.RegularBinEdges.{RegularBinEdges}
-use Rattle.bins.specs.declared.BinIndex.{BinIndex}
-use Rattle.bins.specs.declared.BinIndex.the-variants.{At, None}
-use Rattle.bins.specs.Answers.{indexOf}
 use Rattle.reducer.specs.declared.BuiltEdges.{BuiltEdges}
 use Rattle.reducer.specs.declared.BuiltEdges.the-variants.{Regular, Irregular}
 use Rattle.reducer.specs.declared.Reducer.{Reducer}
 use Rattle.reducer.specs.declared.Reducer.the-variants.{ComponentSumHistogram}
 use Rattle.reducer.specs.Consume.{builtBin}
 use Rattle.edge_table.specs.declared.Table.{Table}
-use Rattle.edge_table.specs.Table.{keysTo, keysOf, tableOf, placeOf, endOf, spread, binHinted, hintsOf, bit, rise, among32, searched, encloses, halvedBin, nudged, guessed, outsideOf, guessedBin, searchedBin, keyedBin, tableBin, valueTableOf}
-
--- ---- keys
-module _ (list : List Float) (keys : List ℕ) where
-  pub keys-none : keys ≡ keysTo list 0 keys
-  unfolding keysTo
-  keys-none = refl
-
-  pub keys-next : (i : ℕ) (q : List ℕ) (x : Float) (k : ℕ) → x ≡ at list i → k ≡ orderKey x → q ≡ keysTo list i keys → set q i k ≡ keysTo list (i + 1) keys
-  unfolding keysTo
-  keys-next i q x k e h inv = rw (add-one, ← e, ← h, ← inv)
-
-  pub keys-done : (i : ℕ) (q : List ℕ) → i ≤ length keys → length q ≡ length keys → length q ≤ i → q ≡ keysTo list i keys → q ≡ keysOf list keys
-  unfolding keysOf
-  keys-done i q h l k inv =
-      let z : i ≡ length keys = omega arith in
-      inv ∙ ap (λ (a : ℕ). keysTo list a keys) z
+use Rattle.edge_table.specs.Table.{tableOf, placeOf, endOf, spread, binHinted, hintsOf, bit, halvedBin, outsideOf, edgeBin, tableBin, valueTableOf}
 
 -- ---- hints
 module _ (q m : ℕ) where
@@ -133,64 +114,6 @@ pub bit-times : (w : ℕ) (t : Bool) → w * bit t ≤ w
 bit-times w true = omega arith
 bit-times w false = omega arith
 
-false-last : (a : Bool) → false ≡ (a && false)
-false-last true = refl
-false-last false = refl
-
-module _ (n : ℕ) (keys : List ℕ) (k b : ℕ) where
-  pub enclosed-past : n ≤ b → false ≡ encloses n keys k b
-  unfolding encloses
-  enclosed-past h = rw (le-ltb b n h)
-
-  pub enclosed-missing : length keys ≤ b + 1 → false ≡ encloses n keys k b
-  unfolding encloses
-  enclosed-missing h = rw (List·getD-eq-default keys 0 h, le-ltb k 0 zero-le) (false-last (ltb b n && leb (getD keys b 0) k))
-
-  pub enclosed-above : b < n → k < getD keys b 0 → false ≡ encloses n keys k b
-  unfolding encloses
-  enclosed-above h l = rw (lt-ltb b n h, lt-leb (getD keys b 0) k l)
-
-  pub enclosed-is : b < n → getD keys b 0 ≤ k → ltb k (getD keys (b + 1) 0) ≡ encloses n keys k b
-  unfolding encloses
-  enclosed-is h l = rw (lt-ltb b n h, le-leb (getD keys b 0) k l)
-
-pub ruleset enclosed = (enclosed-past, enclosed-missing, enclosed-above, enclosed-is)
-
-module _ (keys : List ℕ) (k : ℕ) where
-  pub among-is : (b c d e f r : ℕ) → c ≡ rise keys k 16 b → d ≡ rise keys k 8 c → e ≡ rise keys k 4 d → f ≡ rise keys k 2 e → r ≡ rise keys k 1 f → r ≡ among32 keys k b
-  unfolding among32
-  among-is b c d e f r p q s t u = rw (← p, ← q, ← s, ← t) u
-
-  module _ (n : ℕ) where
-    pub searched-short : length keys < 32 → 0 ≡ searched n keys k
-    unfolding searched
-    searched-short h = rw (lt-ltb (length keys) 32 h)
-
-    module _ (l : 32 ≤ length keys) where
-      pub searched-few : (r : ℕ) → n ≤ 32 → r ≡ among32 keys k 0 → r ≡ searched n keys k
-      unfolding searched
-      searched-few r h e = rw (le-ltb (length keys) 32 l, le-leb n 32 h) e
-
-      pub searched-missing : 32 < n → length keys < 256 → 0 ≡ searched n keys k
-      unfolding searched
-      searched-missing h m = rw (le-ltb (length keys) 32 l, lt-leb n 32 h, lt-ltb (length keys) 256 m)
-
-      pub searched-many : (c d e r : ℕ) → 32 < n → 256 ≤ length keys → c ≡ rise keys k 128 0 → d ≡ rise keys k 64 c → e ≡ rise keys k 32 d → r ≡ among32 keys k e → r ≡ searched n keys k
-      unfolding searched
-      searched-many c d e r h m p q s t = rw (le-ltb (length keys) 32 l, lt-leb n 32 h, le-ltb (length keys) 256 m, ← p, ← q, ← s) t
-
-  pub nudged-within : (h r : ℕ) → h + 1 < length keys → r ≡ rise keys k 1 h → r ≡ nudged keys k h
-  unfolding nudged
-  nudged-within h r l e = rw (lt-ltb (h + 1) (length keys) l) e
-
-  pub nudged-past : (h : ℕ) → length keys ≤ h + 1 → h ≡ nudged keys k h
-  unfolding nudged
-  nudged-past h l = rw (le-ltb (h + 1) (length keys) l)
-
-pub guessed-is : (keys hints : List ℕ) (table : Table) (x : Float) (h k r : ℕ) → h ≡ getD hints (placeOf table x) 0 → k ≡ orderKey x → r ≡ nudged keys k h → r ≡ guessed keys hints table x
-unfolding guessed
-guessed-is keys hints table x h k r p q e = rw (← p, ← q) e
-
 -- r is the answer of `is_nan`
 module _ (table : Table) (x : Float) (r : Bool) (q : r ≡ isNan x) where
   pub outside-nan : r ≡ true → true ≡ outsideOf table x
@@ -206,51 +129,22 @@ module _ (table : Table) (x : Float) (r : Bool) (q : r ≡ isNan x) where
     unfolding outsideOf
     outside-high t = rw (← q, a, t)
 
--- r is the answer of `is_outside`, s and u of `is_enclosed`, g of `search`
-module _ (keys : List ℕ) (table : Table) (x : Float) (r : Bool) (q : r ≡ outsideOf table x) where
-  pub guessed-outside : (hints : List ℕ) (m : ℕ) → r ≡ true → none ≡ guessedBin m keys hints table x
-  unfolding guessedBin
-  guessed-outside hints m t = rw (← q, t)
+-- r is the answer of `is_outside`
+module _ (list : List Float) (table : Table) (x : Float) (r : Bool) (q : r ≡ outsideOf table x) where
+  pub edge-outside : r ≡ true → none ≡ edgeBin list table x
+  unfolding edgeBin
+  edge-outside t = rw (← q, t)
 
-  pub searched-outside : (list : List Float) → r ≡ true → none ≡ searchedBin list keys table x
-  unfolding searchedBin
-  searched-outside list t = rw (← q, t)
+  pub edge-halved : (o : Option ℕ) → r ≡ false → o ≡ halvedBin list x → o ≡ edgeBin list table x
+  unfolding edgeBin
+  edge-halved o t e = rw (← q, t) e
 
-  module _ (a : r ≡ false) (k : ℕ) (l : k ≡ orderKey x) where
-    module _ (hints : List ℕ) (m n : ℕ) (e : n ≡ m - 1) (h : ℕ) (f : h ≡ guessed keys hints table x) (s : Bool) (d : s ≡ encloses n keys k h) where
-      pub guessed-right : s ≡ true → some h ≡ guessedBin m keys hints table x
-      unfolding guessedBin
-      guessed-right t = rw (← q, a, ← l, ← e, ← f, ← d, t)
-
-      pub guessed-wrong : s ≡ false → none ≡ guessedBin m keys hints table x
-      unfolding guessedBin
-      guessed-wrong t = rw (← q, a, ← l, ← e, ← f, ← d, t)
-
-    module _ (list : List Float) (n : ℕ) (e : n ≡ length list - 1) (g : ℕ) (v : g ≡ searched n keys k) (u : Bool) (w : u ≡ encloses n keys k g) where
-      pub searched-right : u ≡ true → some g ≡ searchedBin list keys table x
-      unfolding searchedBin
-      searched-right t = rw (← q, a, ← l, ← e, ← v, ← w, t)
-
-      pub searched-edges : (o : Option ℕ) → u ≡ false → o ≡ halvedBin list x → o ≡ searchedBin list keys table x
-      unfolding searchedBin
-      searched-edges o t z = rw (← q, a, ← l, ← e, ← v, ← w, t) z
-
--- r is the answer of `guessed_bin`
-module _ (list : List Float) (keys hints : List ℕ) (table : Table) (x : Float) (r : BinIndex) (q : indexOf r ≡ guessedBin (length list) keys hints table x) where
-  pub keyed-guess : (b : ℕ) → r ≡ At b → some b ≡ keyedBin list keys hints table x
-  unfolding keyedBin
-  keyed-guess b t = rw (← q, t)
-
-  pub keyed-search : (o : Option ℕ) → r ≡ None → o ≡ searchedBin list keys table x → o ≡ keyedBin list keys hints table x
-  unfolding keyedBin
-  keyed-search o t z = rw (← q, t) z
-
-module _ (edges : BuiltEdges) (list : List Float) (keys hints : List ℕ) (table : Table) (x : Float) (o : Option ℕ) where
-  pub bin-regular : (e : RegularBinEdges) → edges ≡ Regular e → o ≡ builtBin edges list x → o ≡ tableBin edges list keys hints table x
+module _ (edges : BuiltEdges) (list : List Float) (table : Table) (x : Float) (o : Option ℕ) where
+  pub bin-regular : (e : RegularBinEdges) → edges ≡ Regular e → o ≡ builtBin edges list x → o ≡ tableBin edges list table x
   unfolding tableBin
   bin-regular e t h = h ∙ (rw t)
 
-  pub bin-irregular : edges ≡ Irregular → o ≡ keyedBin list keys hints table x → o ≡ tableBin edges list keys hints table x
+  pub bin-irregular : edges ≡ Irregular → o ≡ edgeBin list table x → o ≡ tableBin edges list table x
   unfolding tableBin
   bin-irregular t e = e ∙ (rw t)
 

@@ -1,11 +1,12 @@
--- Lookups in edges by a table: what the functions return for any keys, hints and table, also ones of other edges.
+-- Lookups in edges by a table: what the functions return for any hints and table, also ones of other edges.
 use mathlib.Core.Option.{Option, none, some}
 use mathlib.Core.List.{List, [], _∷_, map}
 use mathlib.Core.Bool.{Bool, true, false, cond, not, _&&_, _||_}
-use Prim.Native.Nat.{ℕ, zero, suc, _+_, _-_, _*_, _%_}
+use Prim.Native.Nat.{ℕ, zero, suc, _+_, _-_, _*_, _/_, _%_}
 use lib.Dec.{leb, ltb, eqb}
 use lib.ListN.{length, getD, set}
-use lib.Ieee.{Float, binary64, add, sub, mul, div, lt, le, isNan, ofBits, toBits}
+use lib.IntN.{pos}
+use lib.Ieee.{Float, binary64, add, sub, mul, div, lt, le, isNan, ofInt, ofBits, toBits}
 use Rattle.definitions.specs.Lists.{at}
 use Rattle.definitions.specs.Floats.{asUsize}
 use Rattle.definitions.specs.Bins.{below}
@@ -17,14 +18,6 @@ use Rattle.reducer.specs.declared.Reducer.{Reducer}
 use Rattle.reducer.specs.declared.Reducer.the-variants.{Comp0Mean, ComponentSumMean, ComponentSumHistogram}
 use Rattle.reducer.specs.Consume.{builtBin}
 use Rattle.edge_table.specs.declared.Table.{Table}
-
--- the order keys of the edges at the first n places; past the edges a NaN's key, which is above each number's
-unfoldable pub keysTo : List Float → ℕ → List ℕ → List ℕ
-keysTo list zero keys = keys
-keysTo list (suc i) keys = set (keysTo list i keys) i (orderKey (at list i))
-
-unfoldable pub keysOf : List Float → List ℕ → List ℕ
-keysOf list keys = keysTo list (length keys) keys
 
 -- ends of the edges, and places of hints a unit of the value; span is how many places the edges take
 abbrev pub tableOf : BuiltEdges → List Float → Float → Table
@@ -61,30 +54,6 @@ abbrev pub bit : Bool → ℕ
 bit true = 1
 bit false = 0
 
--- w up from b where that key is not above k
-unfoldable pub rise : List ℕ → ℕ → ℕ → ℕ → ℕ
-rise keys k w b = b + w * bit (leb (getD keys (b + w) 0) k)
-
--- of the 32 bins from b on
-unfoldable pub among32 : List ℕ → ℕ → ℕ → ℕ
-among32 keys k b = rise keys k 1 (rise keys k 2 (rise keys k 4 (rise keys k 8 (rise keys k 16 b))))
-
--- the search by halves in n bins, at most 256; 0 where keys are missing
-unfoldable pub searched : ℕ → List ℕ → ℕ → ℕ
-searched n keys k =
-    cond (ltb (length keys) 32) 0 (cond (leb n 32) (among32 keys k 0) (cond (ltb (length keys) 256) 0 (among32 keys k (rise keys k 32 (rise keys k 64 (rise keys k 128 0))))))
-
--- one of n bins, whose keys enclose k
-unfoldable pub encloses : ℕ → List ℕ → ℕ → ℕ → Bool
-encloses n keys k b = ltb b n && leb (getD keys b 0) k && ltb k (getD keys (b + 1) 0)
-
--- h, or the bin after it
-unfoldable pub nudged : List ℕ → ℕ → ℕ → ℕ
-nudged keys k h = cond (ltb (h + 1) (length keys)) (rise keys k 1 h) h
-
-unfoldable pub guessed : List ℕ → List ℕ → Table → Float → ℕ
-guessed keys hints table x = nudged keys (orderKey x) (getD hints (placeOf table x) 0)
-
 -- x is a number, and the keys of bin h's edges enclose its own
 unfoldable pub holds : List Float → Float → ℕ → Bool
 holds list x h = not (isNan x) && ltb h (length list - 1) && leb (orderKey (at list h)) (orderKey x) && ltb (orderKey x) (orderKey (at list (h + 1)))
@@ -108,27 +77,12 @@ halvedBin list x = cond (holds list x (halved list x)) (some (halved list x)) (b
 unfoldable pub outsideOf : Table → Float → Bool
 outsideOf table x = isNan x || lt x (table .first) || le (table .last) x
 
--- the guess, where its keys enclose the value's; m is how many edges there are
-unfoldable pub guessedBin : ℕ → List ℕ → List ℕ → Table → Float → Option ℕ
-guessedBin m keys hints table x =
-    cond (outsideOf table x) none (cond (encloses (m - 1) keys (orderKey x) (guessed keys hints table x)) (some (guessed keys hints table x)) none)
+unfoldable pub edgeBin : List Float → Table → Float → Option ℕ
+edgeBin list table x = cond (outsideOf table x) none (halvedBin list x)
 
--- what the search in the keys finds, where its keys do; else the search in the edges
-unfoldable pub searchedBin : List Float → List ℕ → Table → Float → Option ℕ
-searchedBin list keys table x =
-    cond (outsideOf table x) none
-    (cond (encloses (length list - 1) keys (orderKey x) (searched (length list - 1) keys (orderKey x))) (some (searched (length list - 1) keys (orderKey x))) (halvedBin list x))
-
-abbrev pub elseBin : Option ℕ → Option ℕ → Option ℕ
-elseBin (some b) o = some b
-elseBin none o = o
-
-unfoldable pub keyedBin : List Float → List ℕ → List ℕ → Table → Float → Option ℕ
-keyedBin list keys hints table x = elseBin (guessedBin (length list) keys hints table x) (searchedBin list keys table x)
-
-unfoldable pub tableBin : BuiltEdges → List Float → List ℕ → List ℕ → Table → Float → Option ℕ
-tableBin (Regular e) list keys hints table x = builtBin (Regular e) list x
-tableBin Irregular list keys hints table x = keyedBin list keys hints table x
+unfoldable pub tableBin : BuiltEdges → List Float → Table → Float → Option ℕ
+tableBin (Regular e) list table x = builtBin (Regular e) list x
+tableBin Irregular list table x = edgeBin list table x
 
 -- ---- lookups of many values, which are not outside the ends
 -- the bin, or a number past every bin
@@ -138,6 +92,18 @@ numberOr (some b) = b
 
 abbrev pub quotient : RegularBinEdges → Float → Float
 quotient e x = div binary64 (sub binary64 x (e .min)) (e .«bin_size»)
+
+-- a guess of the whole number of q: 2^51 added rounds to a half, and the bits above the last then hold the whole number
+unfoldable pub guessOf : Float → ℕ
+guessOf q = toBits binary64 (add binary64 (add binary64 q (ofBits binary64 0x40af_ff80_0000_0000)) (ofBits binary64 0x4320_0000_0000_0000)) / 2 % 4096
+
+-- h is the whole number of q
+unfoldable pub isSure : Float → ℕ → Bool
+isSure q h = le (ofInt binary64 (pos h)) q && lt q (add binary64 (ofInt binary64 (pos h)) (ofBits binary64 0x3ff0_0000_0000_0000))
+
+-- the guess where it is right, else a mark
+unfoldable pub sureCut : Float → ℕ
+sureCut q = cond (isSure q (guessOf q)) (guessOf q) 4097
 
 -- strictly between the edges of bin h
 unfoldable pub between : List Float → Float → ℕ → Bool

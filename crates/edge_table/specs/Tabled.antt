@@ -1,13 +1,12 @@
 -- What a table's lookups need to find the edges' own bins.
 use mathlib.Core.Path.{_≡_}
 use mathlib.Core.List.{List}
-use Prim.Native.Nat.{ℕ, _-_, _≤_, _<_}
+use Prim.Native.Nat.{ℕ, _-_, _≤_}
 use lib.Dec.{T}
-use lib.ListN.{length, getD}
+use lib.ListN.{length}
 use lib.Ieee.{Float, binary64, fits}
 use Rattle.definitions.specs.Lists.{at}
 use Rattle.definitions.specs.Rules.{allFinite, increasing}
-use Rattle.floats.specs.Order.{orderKey}
 use Rattle.reducer.specs.declared.BuiltEdges.{BuiltEdges}
 use Rattle.reducer.specs.declared.BuiltEdges.the-variants.{Regular, Irregular}
 use Rattle.reducer.specs.declared.Reducer.{Reducer}
@@ -21,7 +20,7 @@ pub record Searchable (es : List Float) : Type 0 where
   pub finite : T (allFinite es)
   pub increasing : T (increasing es)
 
--- edges that can be looked up by keys; regular ones need none
+-- edges that can be searched; regular ones need not
 abbrev pub Usable : BuiltEdges → List Float → Type 0
 Usable (Regular e) es = Unit {0}
 Usable Irregular es = Searchable es
@@ -31,14 +30,9 @@ abbrev pub EndsOf : BuiltEdges → List Float → Float → Float → Type 0
 EndsOf (Regular e) es first last = (first ≡ e .min) × (last ≡ e .max)
 EndsOf Irregular es first last = (first ≡ at es 0) × (last ≡ at es (length es - 1))
 
--- no key but the edges' own
-abbrev pub Keys : List ℕ → List Float → Type 0
-Keys keys es = (i : ℕ) → i < length keys → getD keys i 0 ≡ orderKey (at es i)
-
-pub record Tabled (edges : BuiltEdges) (es : List Float) (table : Table) (keys : List ℕ) : Type 0 where
+pub record Tabled (edges : BuiltEdges) (es : List Float) (table : Table) : Type 0 where
   pub usable : Usable edges es
   pub ends : EndsOf edges es (table .first) (table .last)
-  pub keyed : Keys keys es
 
 -- the same of a reducer's value edges, which a mean has not
 abbrev pub UsableValues : Reducer → List Float → Type 0
@@ -46,7 +40,7 @@ UsableValues Comp0Mean es = Unit {0}
 UsableValues ComponentSumMean es = Unit {0}
 UsableValues (ComponentSumHistogram e) es = Usable e es
 
-abbrev pub TabledValues : Reducer → List Float → Table → List ℕ → Type 0
-TabledValues Comp0Mean es table keys = Unit {0}
-TabledValues ComponentSumMean es table keys = Unit {0}
-TabledValues (ComponentSumHistogram e) es table keys = Tabled e es table keys
+abbrev pub TabledValues : Reducer → List Float → Table → Type 0
+TabledValues Comp0Mean es table = Unit {0}
+TabledValues ComponentSumMean es table = Unit {0}
+TabledValues (ComponentSumHistogram e) es table = Tabled e es table

@@ -1,4 +1,4 @@
-// Lookups in edges by a table: keys and hints are made once, and each lookup tries a hint's bin, then a search by halves. A guess is tested, so nothing rests on it.
+// Lookups in edges by a table: hints are made once, and each lookup tries a hint's bin, then a search by halves. A guess is tested, so nothing rests on it.
 use bins::BinIndex;
 use bins::RegularBinEdges;
 use reducer::BuiltEdges;
@@ -13,7 +13,7 @@ ghost use Rattle.definitions.specs.Floats.{asUsize};
 ghost use Rattle.definitions.specs.Bins.{below};
 ghost use Rattle.floats.specs.Order.{orderKey};
 ghost use Rattle.bins.specs.Answers.{indexOf};
-ghost use Rattle.edge_table.specs.Table.{keysOf, tableOf, placeOf, endOf, spread, binHinted, hintsOf, rise, among32, searched, encloses, nudged, guessed, outsideOf, guessedBin, searchedBin, keyedBin, tableBin, noTable, valueTableOf, numberOr, quotient, between, holds, climb, climb32, halved, halvedBin, nearBin, hintedBin, foundOf, roomOf, kept, dropped, droppedOf};
+ghost use Rattle.edge_table.specs.Table.{tableOf, placeOf, endOf, spread, binHinted, hintsOf, outsideOf, edgeBin, tableBin, noTable, valueTableOf, numberOr, quotient, guessOf, isSure, sureCut, between, holds, climb, climb32, halved, halvedBin, nearBin, hintedBin, foundOf, roomOf, kept, dropped, droppedOf};
 
 // Ends of the edges, and places of hints a unit of the value.
 pub struct Table {
@@ -38,17 +38,6 @@ fn key_of(x: f64) -> u64
     let bits = floats::to_bits(x);
     let low = bits % 0x8000_0000_0000_0000;
     0x8000_0000_0000_0000 + low - (bits / 0x8000_0000_0000_0000) * (2 * low + 1)
-}
-
-// The key of each edge, then NaNs' keys.
-pub fn keys_of(list: &[f64], keys: &mut [u64])
-    ensures { λ _. ⌜ now (keys .exit) ≡ keysOf (now (list .entry)) (now (keys .entry)) ⌝ }
-{
-    let mut i = 0;
-    while i < keys.len() {
-        keys[i] = key_of(edge_at(list, i));
-        i += 1;
-    }
 }
 
 // span is how many places of hints the edges take.
@@ -138,80 +127,6 @@ fn hint_at(hints: &[u8], table: Table, value: f64) -> usize
     0
 }
 
-// w up from b where that key is not above the value's; without a branch.
-fn rise_by(keys: &[u64], key: u64, w: usize, b: usize) -> usize
-    requires { ⌜ (b + w < length (now keys)) × (b + w ≤ 256) ⌝ }
-    ensures { λ r. ⌜ (r ≡ rise (now (keys .entry)) key w b) × (r ≤ b + w) ⌝ }
-{
-    b + w * ((keys[b + w] <= key) as usize)
-}
-
-// Five steps: of the 32 bins from b on.
-fn search_32(keys: &[u64], key: u64, b: usize) -> usize
-    requires { ⌜ (b + 31 < length (now keys)) × (b + 31 ≤ 255) ⌝ }
-    ensures { λ r. ⌜ (r ≡ among32 (now (keys .entry)) key b) × (r ≤ b + 31) ⌝ }
-{
-    let c = rise_by(keys, key, 16, b);
-    let d = rise_by(keys, key, 8, c);
-    let e = rise_by(keys, key, 4, d);
-    let f = rise_by(keys, key, 2, e);
-    rise_by(keys, key, 1, f)
-}
-
-// The search by halves in n bins; 0 where keys are missing.
-fn search(n: usize, keys: &[u64], key: u64) -> usize
-    ensures { λ r. ⌜ (r ≡ searched n (now (keys .entry)) key) × (r ≤ 255) ⌝ }
-{
-    if keys.len() < 32 {
-        return 0;
-    }
-    if n <= 32 {
-        return search_32(keys, key, 0);
-    }
-    if keys.len() < 256 {
-        return 0;
-    }
-    let c = rise_by(keys, key, 128, 0);
-    let d = rise_by(keys, key, 64, c);
-    let e = rise_by(keys, key, 32, d);
-    search_32(keys, key, e)
-}
-
-// Whether b is one of n bins and its keys enclose the value's.
-fn is_enclosed(n: usize, keys: &[u64], key: u64, b: usize) -> bool
-    requires { ⌜ b ≤ 256 ⌝ }
-    ensures { λ r. ⌜ r ≡ encloses n (now (keys .entry)) key b ⌝ }
-{
-    if b >= n {
-        return false;
-    }
-    if b + 1 >= keys.len() {
-        return false;
-    }
-    if keys[b] > key {
-        return false;
-    }
-    key < keys[b + 1]
-}
-
-// h, or the bin after it.
-fn nudge(keys: &[u64], key: u64, h: usize) -> usize
-    requires { ⌜ h ≤ 255 ⌝ }
-    ensures { λ r. ⌜ (r ≡ nudged (now (keys .entry)) key h) × (r ≤ 256) ⌝ }
-{
-    if h + 1 < keys.len() {
-        return rise_by(keys, key, 1, h);
-    }
-    h
-}
-
-fn guess(keys: &[u64], hints: &[u8], table: Table, value: f64) -> usize
-    ensures { λ r. ⌜ (r ≡ guessed (now (keys .entry)) (now (hints .entry)) table value) × (r ≤ 256) ⌝ }
-{
-    let h = hint_at(hints, table, value);
-    nudge(keys, key_of(value), h)
-}
-
 fn is_held(list: &[f64], x: f64, h: usize) -> bool
     ensures { λ r. ⌜ r ≡ holds (now (list .entry)) x h ⌝ }
 {
@@ -249,7 +164,7 @@ fn climb_32(list: &[f64], x: f64, b: usize) -> usize
     climb_by(list, x, 1, f)
 }
 
-// In the edges themselves: few values do not pay for keys.
+// The search by halves.
 fn halve(list: &[f64], x: f64) -> usize
     ensures { λ r. ⌜ r ≡ halved (now (list .entry)) x ⌝ }
 {
@@ -285,67 +200,23 @@ fn is_outside(table: Table, value: f64) -> bool
     table.last <= value
 }
 
-// The bin in irregular edges by the hint at the value's place, where it is right. Small, so that a caller's loop can hold it.
-pub fn guessed_bin(
-    list_len: usize,
-    keys: &[u64],
-    hints: &[u8],
-    table: Table,
-    value: f64,
-) -> BinIndex
-    ensures { λ r. ⌜ indexOf r ≡ guessedBin «list_len» (now (keys .entry)) (now (hints .entry)) table value ⌝ }
+// The bin in irregular edges by the search.
+fn edge_bin(list: &[f64], table: Table, value: f64) -> BinIndex
+    ensures { λ r. ⌜ indexOf r ≡ edgeBin (now (list .entry)) table value ⌝ }
 {
     if is_outside(table, value) {
         return BinIndex::None;
-    }
-    let n = reducer::n_bins(BuiltEdges::Irregular, list_len);
-    let h = guess(keys, hints, table, value);
-    if is_enclosed(n, keys, key_of(value), h) {
-        return BinIndex::At(h);
-    }
-    BinIndex::None
-}
-
-// The bin in irregular edges by the search in the keys, where it is right; else by that in the edges.
-pub fn searched_bin(list: &[f64], keys: &[u64], table: Table, value: f64) -> BinIndex
-    ensures { λ r. ⌜ indexOf r ≡ searchedBin (now (list .entry)) (now (keys .entry)) table value ⌝ }
-{
-    if is_outside(table, value) {
-        return BinIndex::None;
-    }
-    let n = reducer::n_bins(BuiltEdges::Irregular, list.len());
-    let key = key_of(value);
-    let b = search(n, keys, key);
-    if is_enclosed(n, keys, key, b) {
-        return BinIndex::At(b);
     }
     halved_bin(list, value)
 }
 
-// The bin in irregular edges: the guess, then the search.
-fn keyed_bin(list: &[f64], keys: &[u64], hints: &[u8], table: Table, value: f64) -> BinIndex
-    ensures { λ r. ⌜ indexOf r ≡ keyedBin (now (list .entry)) (now (keys .entry)) (now (hints .entry)) table value ⌝ }
-{
-    match guessed_bin(list.len(), keys, hints, table, value) {
-        BinIndex::At(b) => BinIndex::At(b),
-        BinIndex::None => searched_bin(list, keys, table, value),
-    }
-}
-
-// A bin by the table: the edges' own where keys and table are theirs.
-pub fn bin_of(
-    edges: BuiltEdges,
-    list: &[f64],
-    keys: &[u64],
-    hints: &[u8],
-    table: Table,
-    value: f64,
-) -> BinIndex
-    ensures { λ r. ⌜ indexOf r ≡ tableBin edges (now (list .entry)) (now (keys .entry)) (now (hints .entry)) table value ⌝ }
+// One bin by the table: the edges' own where the table is theirs.
+pub fn bin_of(edges: BuiltEdges, list: &[f64], table: Table, value: f64) -> BinIndex
+    ensures { λ r. ⌜ indexOf r ≡ tableBin edges (now (list .entry)) table value ⌝ }
 {
     match edges {
         BuiltEdges::Regular(_) => reducer::bin_of(edges, list, value),
-        BuiltEdges::Irregular => keyed_bin(list, keys, hints, table, value),
+        BuiltEdges::Irregular => edge_bin(list, table, value),
     }
 }
 
@@ -450,15 +321,72 @@ fn cut_to_bin(n_bins: usize, x: f64) -> usize
     if b < n_bins { b } else { 4096 }
 }
 
-fn cut_to_bins(n_bins: usize, x: &[f64], found: &mut [usize])
+// Adding 2^51 rounds to a half; the bits above the last then hold the whole number.
+fn guess_of(q: f64) -> usize
+    ensures { λ r. ⌜ (r ≡ guessOf q) × (r < 4096) ⌝ }
+{
+    let z = (q + 4095.75) + 2251799813685248.0;
+    ((floats::to_bits(z) / 2) % 4096) as usize
+}
+
+// Whether h is q without its fraction.
+fn is_sure(q: f64, h: usize) -> bool
+    requires { ⌜ h < 4096 ⌝ }
+    ensures { λ r. ⌜ r ≡ isSure q h ⌝ }
+{
+    let f = h as f64;
+    let next = f + 1.0;
+    if f <= q { q < next } else { false }
+}
+
+// 4097 where the guess is not right.
+fn sure_cut(q: f64) -> usize
+    ensures { λ r. ⌜ r ≡ sureCut q ⌝ }
+{
+    let h = guess_of(q);
+    if is_sure(q, h) { h } else { 4097 }
+}
+
+// A loop of its own, with nothing but arithmetic, goes several values at a time.
+fn sure_cuts(x: &[f64], found: &mut [usize])
     requires { ⌜ length (now found) ≡ length (now x) ⌝ }
+    ensures { λ _. ⌜ now (found .exit) ≡ map sureCut (now (x .entry)) ⌝ }
+{
+    let mut q = 0;
+    while q < x.len() {
+        found[q] = sure_cut(x[q]);
+        q += 1;
+    }
+}
+
+// 4097 is looked at first: it may be below n_bins.
+fn settle(n_bins: usize, x: f64, b: usize) -> usize
+    requires { ⌜ b ≡ sureCut x ⌝ }
+    ensures { λ r. ⌜ r ≡ numberOr (below «n_bins» (some (asUsize x))) ⌝ }
+{
+    if b == 4097 {
+        return cut_to_bin(n_bins, x);
+    }
+    if b < n_bins { b } else { 4096 }
+}
+
+fn settle_all(n_bins: usize, x: &[f64], found: &mut [usize])
+    requires { ⌜ length (now found) ≡ length (now x) ⌝ ∗ ⌜ now found ≡ map sureCut (now x) ⌝ }
     ensures { λ _. ⌜ now (found .exit) ≡ map (λ v. numberOr (below «n_bins» (some (asUsize v)))) (now (x .entry)) ⌝ }
 {
     let mut q = 0;
     while q < x.len() {
-        found[q] = cut_to_bin(n_bins, x[q]);
+        found[q] = settle(n_bins, x[q], found[q]);
         q += 1;
     }
+}
+
+fn cut_to_bins(n_bins: usize, x: &[f64], found: &mut [usize])
+    requires { ⌜ length (now found) ≡ length (now x) ⌝ }
+    ensures { λ _. ⌜ now (found .exit) ≡ map (λ v. numberOr (below «n_bins» (some (asUsize v)))) (now (x .entry)) ⌝ }
+{
+    sure_cuts(x, &mut *found);
+    settle_all(n_bins, x, found);
 }
 
 // The bin of each value that is not outside the ends; 4096 where there is none. Nothing is done where the lengths differ.

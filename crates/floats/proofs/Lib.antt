@@ -1,4 +1,5 @@
 pub mod Choice
 pub mod Laws
+pub mod Floor
 pub mod Keys
 pub mod Patterns

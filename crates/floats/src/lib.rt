@@ -5,8 +5,8 @@ ghost use lib.Ieee.Scale.{finite};
 ghost use Rattle.definitions.specs.Floats.{asUsize};
 ghost use Rattle.floats.specs.Order.{orderKey};
 
-// x as usize: toward zero, 0 for a NaN or a negative number, the largest usize above the range.
-pub fn as_usize(x: f64) -> usize
+// For every number.
+fn cut(x: f64) -> usize
     ensures { λ r. ⌜ r ≡ asUsize x ⌝ }
 {
     if x > -1.0 {
@@ -16,6 +16,23 @@ pub fn as_usize(x: f64) -> usize
         return usize::MAX;
     }
     0
+}
+
+// x as usize: toward zero, 0 for a NaN or a negative number, the largest usize above the range.
+// Adding 2^52 rounds to a whole number, which the low bits then hold. It is tested, so nothing rests on it; 0.4999 less, most numbers below 4096 pass.
+pub fn as_usize(x: f64) -> usize
+    ensures { λ r. ⌜ r ≡ asUsize x ⌝ }
+{
+    let rounded = x - 0.4999 + 4503599627370496.0;
+    if !is_nan(rounded) {
+        let n = f64::to_bits(rounded) % 4096;
+        if x >= (n as f64) {
+            if x < ((n + 1) as f64) {
+                return n as usize;
+            }
+        }
+    }
+    cut(x)
 }
 
 pub fn is_nan(x: f64) -> bool

@@ -58,7 +58,7 @@ axis-near : (L M : ℕ) (d : ℤ) → Within L M d → L ≤ 64 → M ≤ 64 →
 axis-near L M (pos n) w h k = record { near = omega arith }
 axis-near L M (negsuc m) w h k = record { near = omega arith }
 
-count-a : (L M : ℕ) (d : ℤ) → Within L M d → startA d + count L M d ≤ L
+pub count-a : (L M : ℕ) (d : ℤ) → Within L M d → startA d + count L M d ≤ L
 count-a L M (pos n) w = omega arith
 count-a L M (negsuc m) w = omega arith
 

@@ -5,6 +5,8 @@ pub mod Loops
 pub mod Means
 pub mod Cells
 pub mod Merge
+pub mod Sure
+pub mod Rows
 pub mod Walk
 pub mod Placewise
 pub mod Runs

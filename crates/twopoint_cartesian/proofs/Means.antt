@@ -1,7 +1,7 @@
 -- A mean's cells in locals: the two numbers, summed apart, are the state that the cells leave. Assumes nothing.
 use mathlib.Core.Path.{_≡_, refl, sym, ap, subst, _∙_}
 use mathlib.Core.Bool.{Bool, true, false, true≢false}
-use mathlib.Core.List.{List, [], _∷_}
+use mathlib.Core.List.{List}
 use Prim.Native.Nat.{ℕ, zero, suc, _+_, _-_, _*_, _<_, _≤_}
 use native.Mathlib.Nat.{sub-zero}
 use native.Mathlib.Omega.{arith}
@@ -11,13 +11,13 @@ use mathlib.Core.Option.{some}
 use Rattle.definitions.specs.Blocks as blocks
 use Rattle.definitions.specs.Blocks.{CartesianBlock, cellIndex, count}
 use Rattle.definitions.specs.Reducer as definitions
-use Rattle.definitions.specs.Reducer.{datumOf, componentSum}
+use Rattle.definitions.specs.Reducer.{componentSum}
 use Rattle.laws.proofs.Loops.{loopLeft}
 use Rattle.reducer.specs.declared.Datum.{Datum}
 use Rattle.reducer.specs.declared.BuiltEdges.{BuiltEdges}
 use Rattle.reducer.specs.declared.Reducer.{Reducer}
 use Rattle.reducer.specs.declared.Reducer.the-variants.{Comp0Mean, ComponentSumMean, ComponentSumHistogram}
-use Rattle.reducer.specs.Readings.{opOf, theDatum, readingOf}
+use Rattle.reducer.specs.Readings.{theDatum}
 use Rattle.reducer.specs.Consume as consume
 use Rattle.reducer.specs.Consume.{reducerSize, consumed}
 use Rattle.reducer.proofs.Placewise.{room}
@@ -25,7 +25,7 @@ use Rattle.idx_3d_offset.specs.declared.Axes.{Axes}
 use Rattle.idx_3d_offset.specs.Offsets.{Reach}
 use Rattle.twopoint_cartesian.specs.declared.Setup.{Setup}
 use Rattle.twopoint_cartesian.specs.declared.Mean.{Mean}
-use Rattle.twopoint_cartesian.specs.Cells.{Fields, readingIn, cellsAdded, rowAdded, planeAdded, blockAdded, scalarOf, isMean, meanAdded, noMean, meanState, cellsInMean, rowInMean, planeInMean, blockInMean, fieldsIn, firstA, firstB, overlapOf, offsetMean, offsetCells, fresh, Ready, Room, stateMerged, mergedIn}
+use Rattle.twopoint_cartesian.specs.Cells.{Fields, datumIn, cellsAdded, rowAdded, planeAdded, blockAdded, scalarOf, isMean, meanAdded, noMean, meanState, cellsInMean, rowInMean, planeInMean, blockInMean, fieldsIn, firstA, firstB, overlapOf, offsetMean, offsetCells, fresh, Ready, Room, stateMerged, mergedIn}
 use Rattle.twopoint_cartesian.proofs.Loops.{left-turn, left-done}
 use Rattle.twopoint_cartesian.proofs.Cells.{offset-cells}
 
@@ -39,13 +39,11 @@ module _ (k : Reducer) (d : definitions.Datum) (x : Float) (h : x ≡ componentS
 
 -- ---- the loops, turn by turn
 module _ (setup : Setup) (a b : Fields) where
-  pub cells-in-mean : (i j : ℕ) (m : Mean) (x y d : Datum) (v : Float) → readingOf x ≡ readingIn a i → readingOf y ≡ readingIn b j → theDatum d ≡ datumOf (opOf (setup .op)) (readingOf x) (readingOf y)
-      → v ≡ scalarOf (setup .reducer) (theDatum d)
+  pub cells-in-mean : (i j : ℕ) (m : Mean) (d : Datum) (v : Float) → theDatum d ≡ datumIn setup a b i j → v ≡ scalarOf (setup .reducer) (theDatum d)
       → _≡_ {A = Mean} (record { total = add binary64 (m .total) (mul binary64 v (d .weight)); weight = add binary64 (m .weight) (d .weight) }) (cellsInMean setup a b i j m)
   unfolding cellsInMean
-  cells-in-mean i j m x y d v ex ey ed ev =
-      (λ t. record { total = add binary64 (m .total) (mul binary64 (ev t) (d .weight)); weight = add binary64 (m .weight) (d .weight) })
-      ∙ ap (λ (e : definitions.Datum). meanAdded (setup .reducer) e m) (ed ∙ λ t. datumOf (opOf (setup .op)) (ex t) (ey t))
+  cells-in-mean i j m d v ed ev =
+      (λ t. record { total = add binary64 (m .total) (mul binary64 (ev t) (d .weight)); weight = add binary64 (m .weight) (d .weight) }) ∙ ap (λ (e : definitions.Datum). meanAdded (setup .reducer) e m) ed
 
   module _ (i j n : ℕ) where
     pub mean-start : (m : Mean) → rowInMean setup a b i j 0 (n - 0) m ≡ rowInMean setup a b i j 0 n m
@@ -105,7 +103,7 @@ module _ (setup : Setup) (valueEdges : List Float) (e : isMean (setup .reducer) 
   module _ (a b : Fields) where
     mean-cells : (i j : ℕ) (m : Mean) → cellsAdded setup valueEdges a b i j (meanState m) ≡ meanState (cellsInMean setup a b i j m)
     unfolding cellsAdded cellsInMean
-    mean-cells i j m = consumed-mean (setup .reducer) valueEdges (datumOf (opOf (setup .op)) (readingIn a i) (readingIn b j)) m e
+    mean-cells i j m = consumed-mean (setup .reducer) valueEdges (datumIn setup a b i j) m e
 
     mean-row : (i j n : ℕ) (m : Mean) → rowAdded setup valueEdges a b i j 0 n (meanState m) ≡ meanState (rowInMean setup a b i j 0 n m)
     unfolding rowAdded rowInMean

@@ -7,8 +7,8 @@ use Prim.Native.Nat.{ℕ, zero, suc, _+_, _-_, _*_, _<_, _≤_}
 use native.Mathlib.Nat.{sub-zero, suc-mul, mul-comm, mul-le-mul, mul-le-mul-right}
 use native.Mathlib.Omega.{arith}
 use lib.Dec.{T, ltb, ltb→lt}
-use lib.ListN.{length, set, drop, replicate, length-replicate, drop-of-length-le}
-use lib.Ieee.{Float, binary64, add}
+use lib.ListN.{length, set, replicate, length-replicate, drop-of-length-le}
+use lib.Ieee.{Float}
 use mir.Syntax.{w64}
 use mir.Val.{Fits}
 use Rattle.definitions.specs.Lists.{at, range, upto, overwritten}
@@ -17,7 +17,6 @@ use Rattle.definitions.specs.Bins.{below}
 use Rattle.definitions.specs.Blocks as blocks
 use Rattle.definitions.specs.Blocks.{CartesianBlock, Cell, cellPairs, distanceSquared}
 use Rattle.definitions.specs.Run.{place}
-use Rattle.laws.proofs.Loops.{loopLeft}
 use Rattle.laws.proofs.Places.{foldPack, bump, overwritten-turn}
 use Rattle.bins.specs.declared.BinIndex.{BinIndex}
 use Rattle.bins.specs.declared.BinIndex.the-variants.{At, None}
@@ -76,7 +75,7 @@ module _ (n b : ℕ) (state : List Float) where
     merge-done = left-done (λ e s. bump (place n e b) (at state e) s) (length state) z e s
 
 -- ---- one offset, by what the lookup answered
-below-found : (n : ℕ) (o : Option ℕ) (b : ℕ) → below n o ≡ some b → b < n
+pub below-found : (n : ℕ) (o : Option ℕ) (b : ℕ) → below n o ≡ some b → b < n
 below-found n none b e = absurd (Option·none-ne-some b e)
 below-found n (some i) b e = go (ltb i n) (ltb→lt i n) e
   where

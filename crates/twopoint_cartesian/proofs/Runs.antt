@@ -2,10 +2,10 @@
 use mathlib.Core.Path.{_≡_, refl, sym, ap, _∙_}
 use mathlib.Core.Bool.{Bool, true, false, cond}
 use mathlib.Core.Option.{none, some}
-use mathlib.Core.List.{List, [], _∷_}
-use Prim.Native.Nat.{ℕ, _+_, _*_, _<_, _≤_}
+use mathlib.Core.List.{List, []}
+use Prim.Native.Nat.{ℕ, _*_, _≤_}
 use native.Mathlib.Omega.{arith}
-use lib.ListN.{length, take, replicate, length-replicate}
+use lib.ListN.{length, take, length-replicate}
 use lib.Seq.{length-take-le}
 use lib.Dec.{T}
 use lib.Ieee.{Float, binary64, fits}
@@ -41,12 +41,11 @@ use Rattle.idx_3d_offset.specs.Offsets.{autoSeq}
 use Rattle.idx_3d_offset.proofs.Sequence.{cross-all, auto-fold}
 use Rattle.twopoint_cartesian.specs.declared.Block.{Block}
 use Rattle.twopoint_cartesian.specs.declared.CellWidth.{CellWidth}
-use Rattle.twopoint_cartesian.specs.declared.Setup.{Setup}
 use Rattle.twopoint_cartesian.specs.Readings.{blockOf, widthOf, axesOf, setsRun}
 use Rattle.twopoint_cartesian.specs.Cells.{Ready, Findable, Roomy, zeroState, seqFor, offsetsAdded}
 use Rattle.twopoint_cartesian.specs.Refusals.{setsFor, noWidth, setsNumber}
 use Rattle.twopoint_cartesian.proofs.Ready.{ready-sets}
-use Rattle.twopoint_cartesian.proofs.Placewise.{theRun, theSetup, filled-length, filled-at}
+use Rattle.twopoint_cartesian.proofs.Placewise.{theRun, filled-length, filled-at}
 
 -- ---- the number that a run answers; r, n and m are what calls answered
 module _ (auto : Bool) (width : CellWidth) (a b : Block) (a0 a1 a2 aw b0 b1 b2 bw : List Float) where

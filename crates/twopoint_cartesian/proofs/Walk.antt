@@ -1,11 +1,10 @@
 -- The walk over the offsets, turn by turn. Assumes nothing.
 use mathlib.Core.Path.{_≡_, refl, sym, ap, _∙_}
-use mathlib.Core.Option.{Option, none, some}
-use mathlib.Core.Bool.{Bool, true, false, true≢false}
+use mathlib.Core.Option.{Option}
+use mathlib.Core.Bool.{Bool, true, false}
 use mathlib.Core.List.{List, [], _∷_}
 use Prim.Native.Nat.{ℕ, zero, suc, _+_, _<_, _≤_}
 use native.Mathlib.Numerals.{add-one}
-use native.Mathlib.Omega.{arith}
 use lib.ListN.{length, drop, getElem?, drop-of-length-le}
 use lib.Ieee.{Float}
 use Rattle.definitions.specs.Blocks as blocks

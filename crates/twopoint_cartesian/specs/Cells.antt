@@ -1,12 +1,13 @@
 -- What the private functions ask and promise: the cells of an offset into a state of their own, its merge into its bin, and the walk over the offsets, as updates of stores.
 use mathlib.Core.Path.{_≡_}
 use mathlib.Core.Option.{Option, none, some}
-use mathlib.Core.List.{List, [], _∷_}
-use mathlib.Core.Bool.{Bool, true, false}
-use Prim.Native.Nat.{ℕ, _+_, _-_, _*_, _≤_, _<_}
-use lib.ListN.{length, replicate, getElem?}
-use lib.IntN.{ℤ, natAbs}
-use lib.Ieee.{Float, binary64, add, mul}
+use mathlib.Core.List.{List, [], _∷_, map}
+use mathlib.Core.Bool.{Bool, true, false, not, _&&_, cond}
+use Prim.Native.Nat.{ℕ, _+_, _-_, _*_, _/_, _%_, _≤_, _<_}
+use lib.Dec.{ltb, eqb}
+use lib.ListN.{length, getD, replicate, getElem?}
+use lib.IntN.{ℤ, pos, natAbs}
+use lib.Ieee.{Float, binary64, add, mul, lt, le, ofInt, ofBits, toBits}
 use Rattle.definitions.specs.Lists.{at, upto}
 use Rattle.definitions.specs.Floats.{zeroF}
 use Rattle.definitions.specs.Points.{Reading}
@@ -16,10 +17,15 @@ use Rattle.definitions.specs.Reducer.{Datum, datumOf, componentSum}
 use Rattle.definitions.specs.Run.{place}
 use Rattle.laws.proofs.Loops.{loopLeft}
 use Rattle.laws.proofs.Places.{foldPack, bump}
+use Rattle.bins.specs.declared.RegularBinEdges.{RegularBinEdges}
+use Rattle.reducer.specs.declared.BuiltEdges.{BuiltEdges}
+use Rattle.reducer.specs.declared.BuiltEdges.the-variants.{Regular, Irregular}
 use Rattle.reducer.specs.declared.Reducer.{Reducer}
 use Rattle.reducer.specs.declared.Reducer.the-variants.{Comp0Mean, ComponentSumMean, ComponentSumHistogram}
 use Rattle.reducer.specs.Readings.{opOf}
 use Rattle.reducer.specs.Consume.{builtBins, builtBin, reducerSize, consumed}
+use Rattle.edge_table.specs.declared.Table.{Table}
+use Rattle.edge_table.specs.Table.{numberOr, quotient}
 use Rattle.edge_table.specs.Tabled.{Usable, Tabled, UsableValues, TabledValues}
 use Rattle.idx_3d_offset.specs.declared.Axes.{Axes}
 use Rattle.idx_3d_offset.specs.Offsets.{Walkable, crossSeq, autoSeq}
@@ -98,10 +104,13 @@ pub record Placed (sz sy sx : ℕ) (c : Cell) : Type 0 where
   pub x-index : c .x < 64
 
 -- ---- the cells of an offset
+abbrev pub datumIn : Setup → Fields → Fields → ℕ → ℕ → Datum
+datumIn setup a b i j = datumOf (opOf (setup .op)) (readingIn a i) (readingIn b j)
+
 module _ (setup : Setup) (valueEdges : List Float) (a b : Fields) where
   -- cell i of a with cell j of b, into a state
   unfoldable pub cellsAdded : ℕ → ℕ → List Float → List Float
-  cellsAdded i j s = consumed (setup .reducer) valueEdges 1 0 (datumOf (opOf (setup .op)) (readingIn a i) (readingIn b j)) s
+  cellsAdded i j s = consumed (setup .reducer) valueEdges 1 0 (datumIn setup a b i j) s
 
   -- the cells from x on, n of them, of the rows that start at i and j
   unfoldable pub rowAdded : ℕ → ℕ → ℕ → ℕ → List Float → List Float
@@ -114,6 +123,60 @@ module _ (setup : Setup) (valueEdges : List Float) (a b : Fields) where
   -- the planes from z on, l of them
   unfoldable pub blockAdded : ℕ → ℕ → ℕ → ℕ → ℕ → ℕ → ℕ → ℕ → ℕ → ℕ → List Float → List Float
   blockAdded i j sa sb ta tb n k z l s = loopLeft (λ z s. planeAdded (i + z * ta) (j + z * tb) sa sb n 0 k s) z l s
+
+-- ---- a histogram's row
+-- the value and the weight of pair x of a row
+module _ (setup : Setup) (a b : Fields) (i j : ℕ) where
+  unfoldable pub rowValue : ℕ → Float
+  rowValue x = componentSum (datumIn setup a b (i + x) (j + x))
+
+  unfoldable pub rowWeight : ℕ → Float
+  rowWeight x = datumIn setup a b (i + x) (j + x) .weight
+
+-- a guess of a quotient's whole number
+unfoldable pub guessOf : Float → ℕ
+guessOf q = toBits binary64 (add binary64 (add binary64 q (ofBits binary64 0x40af_ff80_0000_0000)) (ofBits binary64 0x4320_0000_0000_0000)) / 2 % 4096
+
+-- h is the whole number of the quotient q of x, which is inside the ends
+unfoldable pub isSure : RegularBinEdges → Float → Float → ℕ → Bool
+isSure e x q h = le (ofInt binary64 (pos h)) q && (lt q (add binary64 (ofInt binary64 (pos h)) (ofBits binary64 0x3ff0_0000_0000_0000)) && (not (lt x (e .min)) && not (le (e .max) x)))
+
+unfoldable pub sureBin : RegularBinEdges → Float → ℕ
+sureBin e x = cond (isSure e x (quotient e x) (guessOf (quotient e x))) (guessOf (quotient e x)) 4097
+
+-- the bin of a value: 4096 where there is none, 4097 where it is still to be looked up
+unfoldable pub markedBin : BuiltEdges → List Float → Float → ℕ
+markedBin (Regular e) list x = sureBin e x
+markedBin Irregular list x = numberOr (builtBin Irregular list x)
+
+-- the weight to the number of a bin, if it is one
+unfoldable pub weightAdded : ℕ → Float → List Float → List Float
+weightAdded b w s = cond (ltb b (length s)) (bump b w s) s
+
+unfoldable pub markedAdded : BuiltEdges → List Float → ℕ → Float → Float → List Float → List Float
+markedAdded edges list b x w s = cond (ltb b (length s)) (weightAdded b w s) (cond (eqb b 4097) (weightAdded (numberOr (builtBin edges list x)) w s) s)
+
+-- the weights from k on, m of them
+unfoldable pub weightsAdded : BuiltEdges → List Float → List ℕ → List Float → List Float → ℕ → ℕ → List Float → List Float
+weightsAdded edges list found values weights k m s = loopLeft (λ k s. markedAdded edges list (getD found k 0) (at values k) (at weights k) s) k m s
+
+-- the setup's histogram, its value edges' table, and a state of its size
+pub record Binned (setup : Setup) (edges : BuiltEdges) (valueEdges : List Float) (table : Table) (size : ℕ) : Type 0 where
+  pub kind : setup .reducer ≡ ComponentSumHistogram edges
+  pub tabled : Tabled edges valueEdges table
+  pub sized : size ≡ builtBins edges (length valueEdges)
+  pub small : size ≤ 256
+
+-- room for a row of n
+pub record RowRoom (n v w r f : ℕ) : Type 0 where
+  pub values : v ≡ n
+  pub weights : w ≡ n
+  pub room : r ≡ n
+  pub found : f ≡ n
+
+-- room for the longest row
+abbrev pub Wide : ℕ → ℕ → ℕ → ℕ → Type 0
+Wide v w r f = RowRoom 64 v w r f
 
 -- ---- the same for a mean, its two numbers apart
 abbrev pub scalarOf : Reducer → Datum → Float
@@ -138,7 +201,7 @@ meanState m = m .total ∷ m .weight ∷ []
 
 module _ (setup : Setup) (a b : Fields) where
   unfoldable pub cellsInMean : ℕ → ℕ → Mean → Mean
-  cellsInMean i j m = meanAdded (setup .reducer) (datumOf (opOf (setup .op)) (readingIn a i) (readingIn b j)) m
+  cellsInMean i j m = meanAdded (setup .reducer) (datumIn setup a b i j) m
 
   unfoldable pub rowInMean : ℕ → ℕ → ℕ → ℕ → Mean → Mean
   rowInMean i j x n m = loopLeft (λ x m. cellsInMean (i + x) (j + x) m) x n m
@@ -200,9 +263,9 @@ pub record Findable (setup : Setup) (list valueEdges : List Float) : Type 0 wher
   pub values : UsableValues (setup .reducer) valueEdges
 
 -- the tables made of them
-pub record Looked (setup : Setup) (list valueEdges : List Float) (tables : Tables) (keys valueKeys : List ℕ) : Type 0 where
-  pub distances : Tabled (setup .edges) list (tables .distances) keys
-  pub values : TabledValues (setup .reducer) valueEdges (tables .values) valueKeys
+pub record Looked (setup : Setup) (list valueEdges : List Float) (tables : Tables) : Type 0 where
+  pub distances : Tabled (setup .edges) list (tables .distances)
+  pub values : TabledValues (setup .reducer) valueEdges (tables .values)
 
 -- the setup's states are its bins, each of the kind's size, and there is room for them
 pub record Roomy (setup : Setup) (list valueEdges : List Float) (size len : ℕ) : Type 0 where

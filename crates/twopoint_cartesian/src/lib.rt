@@ -1,5 +1,6 @@
 // Two-point runs over the cells of Cartesian blocks (twopoint_cartesian.rs, spatial.rs).
 use bins::BinIndex;
+use bins::RegularBinEdges;
 use edge_table::Table;
 use idx_3d_offset::Axes;
 use idx_3d_offset::Idx3DOffset;
@@ -14,12 +15,11 @@ use reducer::Reducer;
 use state::Outcome;
 ghost use mathlib.Core.Path.{_≡_};
 ghost use mathlib.Core.Bool.{true, false, cond};
-ghost use mathlib.Core.List.{[]};
+ghost use mathlib.Core.List.{[], map};
 ghost use mathlib.Core.Option.{some};
 ghost use Prim.Native.Nat.{_+_, _*_, _<_, _≤_};
-ghost use lib.ListN.{length, replicate, getElem?};
-ghost use Rattle.definitions.specs.Floats.{zeroF};
-ghost use Rattle.definitions.specs.Bins.{below};
+ghost use lib.ListN.{length, getElem?};
+ghost use Rattle.definitions.specs.Lists.{overwritten};
 ghost use Rattle.definitions.specs.Points.{square};
 ghost use Rattle.definitions.specs.Blocks.{cell, cellIndex, requiredLength, displaced, distanceSquared};
 ghost use Rattle.definitions.specs.Rules.{refusal, met, outside as outsideOf, overBlock, blockRules, widthRules, precedes as precedesOf, overSets, setRules, pairRules, runRules, step};
@@ -27,14 +27,15 @@ ghost use Rattle.definitions.specs.Run.{place, merged};
 ghost use Rattle.bins.specs.Answers.{indexOf};
 ghost use Rattle.state.specs.Readings.{numberOf};
 ghost use Rattle.reducer.specs.Readings.{theDatum, readingOf, edgesOf, kindOf};
-ghost use Rattle.reducer.specs.Consume.{builtBins, builtBin, reducerSize};
+ghost use Rattle.reducer.specs.Consume.{builtBin, reducerSize};
+ghost use Rattle.edge_table.specs.Table.{numberOr};
 ghost use Rattle.edge_table.specs.Tabled.{Tabled, TabledValues};
 ghost use Rattle.parallel_serial.specs.Drive.{addedScratch};
 ghost use Rattle.parallel_serial.proofs.Refusals.{Drivable};
 ghost use Rattle.idx_3d_offset.specs.Offsets.{idxOf, offsetOf, Reach};
 ghost use Rattle.twopoint_cartesian.specs.Readings.{blockOf, widthOf, axesOf, setsRun, autoRun, crossRun};
 ghost use Rattle.twopoint_cartesian.specs.Refusals.{setsFor, setsNumber, noWidth, numbersOver, lengthOver, globalsOver, Limited};
-ghost use Rattle.twopoint_cartesian.specs.Cells.{fields, readingIn, Holds, RowFits, PlaneFits, BlockFits, Near, AllNear, Ready, Placed, cellsAdded, rowAdded, scalarOf, cellsInMean, rowInMean, planeInMean, blockInMean, offsetMean, meanState, Looked, Findable, planeAdded, blockAdded, firstA, firstB, overlapOf, offsetCells, zeroState, fresh, Room, Roomy, stateMerged, mergedIn, offsetAdded, numberAdded, offsetsAdded, seqFor};
+ghost use Rattle.twopoint_cartesian.specs.Cells.{fields, readingIn, datumIn, rowValue, rowWeight, guessOf, isSure, sureBin, markedBin, weightAdded, markedAdded, weightsAdded, Binned, RowRoom, Wide, Holds, RowFits, PlaneFits, BlockFits, Near, AllNear, Ready, Placed, rowAdded, scalarOf, cellsInMean, rowInMean, planeInMean, blockInMean, offsetMean, meanState, Looked, Findable, planeAdded, blockAdded, firstA, firstB, overlapOf, offsetCells, zeroState, fresh, Room, Roomy, stateMerged, mergedIn, offsetAdded, numberAdded, offsetsAdded, seqFor};
 
 // Axes, strides and global offsets in the order z, y, x.
 pub struct Block {
@@ -326,33 +327,9 @@ fn cell_at(comp0: &[f64], comp1: &[f64], comp2: &[f64], weights: &[f64], i: usiz
     }
 }
 
-// The bin of a histogram's value; in regular edges it may be past the bins, which `consume_at` drops.
-fn value_bin(
-    edges: BuiltEdges,
-    values: Table,
-    value_edges: &[f64],
-    value_keys: &[u64],
-    hints: &[u8],
-    value: f64,
-) -> BinIndex
-    requires { ⌜ Tabled edges (now «value_edges») values (now «value_keys») ⌝ }
-    ensures { λ r. ⌜ below (builtBins edges (length (now («value_edges» .entry)))) (indexOf r) ≡ builtBin edges (now («value_edges» .entry)) value ⌝ }
-{
-    match edges {
-        BuiltEdges::Regular(e) => e.bin_index(value),
-        BuiltEdges::Irregular => {
-            edge_table::bin_of(edges, value_edges, value_keys, hints, values, value)
-        }
-    }
-}
-
 // Cell i of a with cell j of b.
-fn add_cells(
+fn datum_at(
     setup: Setup,
-    values: Table,
-    value_edges: &[f64],
-    value_keys: &[u64],
-    hints: &[u8],
     a0: &[f64],
     a1: &[f64],
     a2: &[f64],
@@ -363,38 +340,180 @@ fn add_cells(
     bw: &[f64],
     i: usize,
     j: usize,
-    state: &mut [f64],
-)
-    requires { ⌜ Holds (fields (now a0) (now a1) (now a2) (now aw)) i ⌝ ∗ ⌜ Holds (fields (now b0) (now b1) (now b2) (now bw)) j ⌝ ∗ ⌜ TabledValues (setup .reducer) (now «value_edges») values (now «value_keys») ⌝ }
-    ensures { λ _. ⌜ now (state .exit) ≡ cellsAdded setup (now («value_edges» .entry)) (fields (now (a0 .entry)) (now (a1 .entry)) (now (a2 .entry)) (now (aw .entry)))
-        (fields (now (b0 .entry)) (now (b1 .entry)) (now (b2 .entry)) (now (bw .entry))) i j (now (state .entry)) ⌝ }
+) -> Datum
+    requires { ⌜ Holds (fields (now a0) (now a1) (now a2) (now aw)) i ⌝ ∗ ⌜ Holds (fields (now b0) (now b1) (now b2) (now bw)) j ⌝ }
+    ensures { λ r. ⌜ theDatum r ≡ datumIn setup (fields (now (a0 .entry)) (now (a1 .entry)) (now (a2 .entry)) (now (aw .entry)))
+        (fields (now (b0 .entry)) (now (b1 .entry)) (now (b2 .entry)) (now (bw .entry))) i j ⌝ }
 {
     let op = setup.op;
-    let kind = setup.reducer;
     let a = cell_at(a0, a1, a2, aw, i);
     let b = cell_at(b0, b1, b2, bw, j);
-    let datum = reducer::datum_of(op, a, b);
-    match kind {
-        Reducer::Comp0Mean => {
-            reducer::consume_at(kind, value_edges.len(), BinIndex::None, 1, 0, datum, state)
+    reducer::datum_of(op, a, b)
+}
+
+// The value and the weight of each pair of a row: n cells of a from i on, each with b's from j on. A loop of its own goes several cells at a time.
+fn gather_row(
+    setup: Setup,
+    a0: &[f64],
+    a1: &[f64],
+    a2: &[f64],
+    aw: &[f64],
+    b0: &[f64],
+    b1: &[f64],
+    b2: &[f64],
+    bw: &[f64],
+    i: usize,
+    j: usize,
+    n: usize,
+    values: &mut [f64],
+    weights: &mut [f64],
+)
+    requires { ⌜ RowFits (fields (now a0) (now a1) (now a2) (now aw)) i n ⌝ ∗ ⌜ RowFits (fields (now b0) (now b1) (now b2) (now bw)) j n ⌝ ∗ ⌜ n ≤ length (now values) ⌝ ∗ ⌜ n ≤ length (now weights) ⌝ }
+    ensures { λ _. ⌜ now (values .exit) ≡ overwritten n (rowValue setup (fields (now (a0 .entry)) (now (a1 .entry)) (now (a2 .entry)) (now (aw .entry))) (fields (now (b0 .entry)) (now (b1 .entry)) (now (b2 .entry)) (now (bw .entry))) i j) (now (values .entry)) ⌝ }
+    ensures { λ _. ⌜ now (weights .exit) ≡ overwritten n (rowWeight setup (fields (now (a0 .entry)) (now (a1 .entry)) (now (a2 .entry)) (now (aw .entry))) (fields (now (b0 .entry)) (now (b1 .entry)) (now (b2 .entry)) (now (bw .entry))) i j) (now (weights .entry)) ⌝ }
+{
+    for x in 0..n {
+        let d = datum_at(setup, a0, a1, a2, aw, b0, b1, b2, bw, i + x, j + x);
+        values[x] = reducer::component_sum(d);
+        weights[x] = d.weight;
+    }
+}
+
+// Adding 2^51 rounds to a half; the bits above the last then hold the whole number.
+fn guess_of(q: f64) -> usize
+    ensures { λ r. ⌜ (r ≡ guessOf q) × (r < 4096) ⌝ }
+{
+    let z = (q + 4095.75) + 2251799813685248.0;
+    ((floats::to_bits(z) / 2) % 4096) as usize
+}
+
+// Whether h is the quotient without its fraction, of a value inside the ends.
+fn is_sure(e: RegularBinEdges, x: f64, q: f64, h: usize) -> bool
+    requires { ⌜ h < 4096 ⌝ }
+    ensures { λ r. ⌜ r ≡ isSure e x q h ⌝ }
+{
+    let f = h as f64;
+    let next = f + 1.0;
+    if f <= q {
+        if q < next {
+            if x < e.min {
+                return false;
+            }
+            if e.max <= x {
+                return false;
+            }
+            return true;
         }
-        Reducer::ComponentSumMean => {
-            reducer::consume_at(kind, value_edges.len(), BinIndex::None, 1, 0, datum, state)
-        }
-        Reducer::ComponentSumHistogram(edges) => {
-            let value = reducer::component_sum(datum);
-            let found = value_bin(edges, values, value_edges, value_keys, hints, value);
-            reducer::consume_at(kind, value_edges.len(), found, 1, 0, datum, state)
+    }
+    false
+}
+
+// The bin in regular edges where a guess is right, else 4097.
+fn sure_bin(e: RegularBinEdges, x: f64) -> usize
+    ensures { λ r. ⌜ r ≡ sureBin e x ⌝ }
+{
+    let q = (x - e.min) / e.bin_size;
+    let h = guess_of(q);
+    if is_sure(e, x, q, h) { h } else { 4097 }
+}
+
+// A loop of its own, with nothing but arithmetic, goes several values at a time.
+fn sure_bins(e: RegularBinEdges, x: &[f64], found: &mut [usize])
+    requires { ⌜ length (now found) ≡ length (now x) ⌝ }
+    ensures { λ _. ⌜ now (found .exit) ≡ map (sureBin e) (now (x .entry)) ⌝ }
+{
+    let mut q = 0;
+    while q < x.len() {
+        found[q] = sure_bin(e, x[q]);
+        q += 1;
+    }
+}
+
+// The bin of each value: 4096 where there is none, and 4097 where it is still to be looked up.
+fn find_bins(
+    edges: BuiltEdges,
+    table: Table,
+    value_edges: &[f64],
+    hints: &[u8],
+    values: &[f64],
+    room: &mut [f64],
+    found: &mut [usize],
+)
+    requires { ⌜ Tabled edges (now «value_edges») table ⌝ ∗ ⌜ length (now room) ≡ length (now values) ⌝ ∗ ⌜ length (now found) ≡ length (now values) ⌝ }
+    ensures { λ _. ⌜ now (found .exit) ≡ map (markedBin edges (now («value_edges» .entry))) (now (values .entry)) ⌝ }
+{
+    match edges {
+        BuiltEdges::Regular(e) => sure_bins(e, values, found),
+        BuiltEdges::Irregular => {
+            edge_table::bins_of(edges, value_edges, hints, table, values, room, found);
+            edge_table::drop_outside(table, values, found);
         }
     }
 }
 
-// n cells of a from i on, each with b's from j on.
+// The weight into the state's bin, if it is one.
+fn add_weight(bin: usize, weight: f64, state: &mut [f64])
+    ensures { λ _. ⌜ now (state .exit) ≡ weightAdded bin weight (now (state .entry)) ⌝ }
+{
+    if bin < state.len() {
+        state[bin] = state[bin] + weight;
+    }
+}
+
+// The same with the value looked up.
+fn add_value(edges: BuiltEdges, value_edges: &[f64], value: f64, weight: f64, state: &mut [f64])
+    requires { ⌜ length (now state) ≤ 256 ⌝ }
+    ensures { λ _. ⌜ now (state .exit) ≡ weightAdded (numberOr (builtBin edges (now («value_edges» .entry)) value)) weight (now (state .entry)) ⌝ }
+{
+    match reducer::bin_of(edges, value_edges, value) {
+        BinIndex::At(bin) => add_weight(bin, weight, state),
+        BinIndex::None => {}
+    }
+}
+
+fn add_marked(
+    edges: BuiltEdges,
+    value_edges: &[f64],
+    bin: usize,
+    value: f64,
+    weight: f64,
+    state: &mut [f64],
+)
+    requires { ⌜ length (now state) ≤ 256 ⌝ }
+    ensures { λ _. ⌜ now (state .exit) ≡ markedAdded edges (now («value_edges» .entry)) bin value weight (now (state .entry)) ⌝ }
+{
+    if bin < state.len() {
+        add_weight(bin, weight, state);
+    } else {
+        if bin == 4097 {
+            add_value(edges, value_edges, value, weight, state);
+        }
+    }
+}
+
+// Each weight into its bin.
+fn add_weights(
+    edges: BuiltEdges,
+    value_edges: &[f64],
+    found: &[usize],
+    values: &[f64],
+    weights: &[f64],
+    state: &mut [f64],
+)
+    requires { ⌜ length (now found) ≤ length (now values) ⌝ ∗ ⌜ length (now found) ≤ length (now weights) ⌝ ∗ ⌜ length (now state) ≤ 256 ⌝ }
+    ensures { λ _. ⌜ now (state .exit) ≡ weightsAdded edges (now («value_edges» .entry)) (now (found .entry)) (now (values .entry)) (now (weights .entry)) 0 (length (now (found .entry))) (now (state .entry)) ⌝ }
+{
+    for k in 0..found.len() {
+        add_marked(edges, value_edges, found[k], values[k], weights[k], state);
+    }
+}
+
+// n cells of a from i on, each with b's from j on. All but the state is room.
 fn add_row(
     setup: Setup,
-    values: Table,
+    edges: BuiltEdges,
+    table: Table,
     value_edges: &[f64],
-    value_keys: &[u64],
     hints: &[u8],
     a0: &[f64],
     a1: &[f64],
@@ -407,40 +526,43 @@ fn add_row(
     i: usize,
     j: usize,
     n: usize,
+    values: &mut [f64],
+    weights: &mut [f64],
+    room: &mut [f64],
+    found: &mut [usize],
     state: &mut [f64],
 )
-    requires { ⌜ RowFits (fields (now a0) (now a1) (now a2) (now aw)) i n ⌝ ∗ ⌜ RowFits (fields (now b0) (now b1) (now b2) (now bw)) j n ⌝ ∗ ⌜ TabledValues (setup .reducer) (now «value_edges») values (now «value_keys») ⌝ }
+    requires { ⌜ RowFits (fields (now a0) (now a1) (now a2) (now aw)) i n ⌝ ∗ ⌜ RowFits (fields (now b0) (now b1) (now b2) (now bw)) j n ⌝ }
+    requires { ⌜ Binned setup edges (now «value_edges») table (length (now state)) ⌝ ∗ ⌜ RowRoom n (length (now values)) (length (now weights)) (length (now room)) (length (now found)) ⌝ }
     ensures { λ _. ⌜ now (state .exit) ≡ rowAdded setup (now («value_edges» .entry)) (fields (now (a0 .entry)) (now (a1 .entry)) (now (a2 .entry)) (now (aw .entry)))
         (fields (now (b0 .entry)) (now (b1 .entry)) (now (b2 .entry)) (now (bw .entry))) i j 0 n (now (state .entry)) ⌝ }
 {
-    for x in 0..n {
-        add_cells(
-            setup,
-            values,
-            value_edges,
-            value_keys,
-            hints,
-            a0,
-            a1,
-            a2,
-            aw,
-            b0,
-            b1,
-            b2,
-            bw,
-            i + x,
-            j + x,
-            state,
-        );
-    }
+    gather_row(
+        setup,
+        a0,
+        a1,
+        a2,
+        aw,
+        b0,
+        b1,
+        b2,
+        bw,
+        i,
+        j,
+        n,
+        values,
+        weights,
+    );
+    find_bins(edges, table, value_edges, hints, values, room, found);
+    add_weights(edges, value_edges, found, values, weights, state);
 }
 
 // k rows of n cells, each a stride after the one before: sa in a, sb in b.
 fn add_plane(
     setup: Setup,
-    values: Table,
+    edges: BuiltEdges,
+    table: Table,
     value_edges: &[f64],
-    value_keys: &[u64],
     hints: &[u8],
     a0: &[f64],
     a1: &[f64],
@@ -456,18 +578,22 @@ fn add_plane(
     sb: usize,
     n: usize,
     k: usize,
+    values: &mut [f64],
+    weights: &mut [f64],
+    room: &mut [f64],
+    found: &mut [usize],
     state: &mut [f64],
 )
-    requires { ⌜ PlaneFits (fields (now a0) (now a1) (now a2) (now aw)) i sa n k ⌝ ∗ ⌜ PlaneFits (fields (now b0) (now b1) (now b2) (now bw)) j sb n k ⌝ ∗ ⌜ TabledValues (setup .reducer) (now «value_edges») values (now «value_keys») ⌝ }
+    requires { ⌜ PlaneFits (fields (now a0) (now a1) (now a2) (now aw)) i sa n k ⌝ ∗ ⌜ PlaneFits (fields (now b0) (now b1) (now b2) (now bw)) j sb n k ⌝ ∗ ⌜ Binned setup edges (now «value_edges») table (length (now state)) ⌝ ∗ ⌜ RowRoom n (length (now values)) (length (now weights)) (length (now room)) (length (now found)) ⌝ }
     ensures { λ _. ⌜ now (state .exit) ≡ planeAdded setup (now («value_edges» .entry)) (fields (now (a0 .entry)) (now (a1 .entry)) (now (a2 .entry)) (now (aw .entry)))
         (fields (now (b0 .entry)) (now (b1 .entry)) (now (b2 .entry)) (now (bw .entry))) i j sa sb n 0 k (now (state .entry)) ⌝ }
 {
     for y in 0..k {
         add_row(
             setup,
-            values,
+            edges,
+            table,
             value_edges,
-            value_keys,
             hints,
             a0,
             a1,
@@ -480,6 +606,10 @@ fn add_plane(
             i + y * sa,
             j + y * sb,
             n,
+            values,
+            weights,
+            room,
+            found,
             state,
         );
     }
@@ -488,9 +618,9 @@ fn add_plane(
 // l planes, each a stride after the one before: ta in a, tb in b.
 fn add_planes(
     setup: Setup,
-    values: Table,
+    edges: BuiltEdges,
+    table: Table,
     value_edges: &[f64],
-    value_keys: &[u64],
     hints: &[u8],
     a0: &[f64],
     a1: &[f64],
@@ -509,18 +639,22 @@ fn add_planes(
     n: usize,
     k: usize,
     l: usize,
+    values: &mut [f64],
+    weights: &mut [f64],
+    room: &mut [f64],
+    found: &mut [usize],
     state: &mut [f64],
 )
-    requires { ⌜ BlockFits (fields (now a0) (now a1) (now a2) (now aw)) i sa ta n k l ⌝ ∗ ⌜ BlockFits (fields (now b0) (now b1) (now b2) (now bw)) j sb tb n k l ⌝ ∗ ⌜ TabledValues (setup .reducer) (now «value_edges») values (now «value_keys») ⌝ }
+    requires { ⌜ BlockFits (fields (now a0) (now a1) (now a2) (now aw)) i sa ta n k l ⌝ ∗ ⌜ BlockFits (fields (now b0) (now b1) (now b2) (now bw)) j sb tb n k l ⌝ ∗ ⌜ Binned setup edges (now «value_edges») table (length (now state)) ⌝ ∗ ⌜ RowRoom n (length (now values)) (length (now weights)) (length (now room)) (length (now found)) ⌝ }
     ensures { λ _. ⌜ now (state .exit) ≡ blockAdded setup (now («value_edges» .entry)) (fields (now (a0 .entry)) (now (a1 .entry)) (now (a2 .entry)) (now (aw .entry)))
         (fields (now (b0 .entry)) (now (b1 .entry)) (now (b2 .entry)) (now (bw .entry))) i j sa sb ta tb n k 0 l (now (state .entry)) ⌝ }
 {
     for z in 0..l {
         add_plane(
             setup,
-            values,
+            edges,
+            table,
             value_edges,
-            value_keys,
             hints,
             a0,
             a1,
@@ -536,6 +670,10 @@ fn add_planes(
             sb,
             n,
             k,
+            values,
+            weights,
+            room,
+            found,
             state,
         );
     }
@@ -571,11 +709,8 @@ fn cells_in_mean(
     ensures { λ r. ⌜ r ≡ cellsInMean setup (fields (now (a0 .entry)) (now (a1 .entry)) (now (a2 .entry)) (now (aw .entry)))
         (fields (now (b0 .entry)) (now (b1 .entry)) (now (b2 .entry)) (now (bw .entry))) i j m ⌝ }
 {
-    let op = setup.op;
     let kind = setup.reducer;
-    let a = cell_at(a0, a1, a2, aw, i);
-    let b = cell_at(b0, b1, b2, bw, j);
-    let d = reducer::datum_of(op, a, b);
+    let d = datum_at(setup, a0, a1, a2, aw, b0, b1, b2, bw, i, j);
     let value = scalar_of(kind, d);
     Mean {
         total: m.total + value * d.weight,
@@ -820,9 +955,9 @@ fn mean_of_offset(
 // The cells of the offset, a's with b's, into a state.
 fn add_offset_cells(
     setup: Setup,
-    values: Table,
+    edges: BuiltEdges,
+    table: Table,
     value_edges: &[f64],
-    value_keys: &[u64],
     hints: &[u8],
     a0: &[f64],
     a1: &[f64],
@@ -835,10 +970,14 @@ fn add_offset_cells(
     bw: &[f64],
     b: Block,
     o: Idx3DOffset,
+    values: &mut [f64],
+    weights: &mut [f64],
+    room: &mut [f64],
+    found: &mut [usize],
     state: &mut [f64],
 )
     requires { ⌜ Ready (blockOf a (now a0) (now a1) (now a2) (now aw)) ⌝ ∗ ⌜ Ready (blockOf b (now b0) (now b1) (now b2) (now bw)) ⌝ ∗ ⌜ Reach (axesOf a) (axesOf b) (idxOf o) ⌝ }
-    requires { ⌜ TabledValues (setup .reducer) (now «value_edges») values (now «value_keys») ⌝ }
+    requires { ⌜ Binned setup edges (now «value_edges») table (length (now state)) ⌝ ∗ ⌜ Wide (length (now values)) (length (now weights)) (length (now room)) (length (now found)) ⌝ }
     ensures { λ _. ⌜ now (state .exit) ≡ offsetCells setup (now («value_edges» .entry)) (blockOf a (now (a0 .entry)) (now (a1 .entry)) (now (a2 .entry)) (now (aw .entry)))
         (blockOf b (now (b0 .entry)) (now (b1 .entry)) (now (b2 .entry)) (now (bw .entry))) (idxOf o) (now (state .entry)) ⌝ }
 {
@@ -847,9 +986,9 @@ fn add_offset_cells(
     let n = overlap(a, b, o);
     add_planes(
         setup,
-        values,
+        edges,
+        table,
         value_edges,
-        value_keys,
         hints,
         a0,
         a1,
@@ -868,6 +1007,10 @@ fn add_offset_cells(
         n.x,
         n.y,
         n.z,
+        &mut values[..n.x],
+        &mut weights[..n.x],
+        &mut room[..n.x],
+        &mut found[..n.x],
         state,
     );
 }
@@ -917,28 +1060,26 @@ fn bin_of_offset(
     setup: Setup,
     distances: Table,
     list: &[f64],
-    keys: &[u64],
-    hints: &[u8],
     width: CellWidth,
     a: Block,
     b: Block,
     o: Idx3DOffset,
 ) -> BinIndex
     requires { ⌜ AllNear (o .0) (o .1) (o .2) ⌝ ∗ ⌜ AllNear (a .gz) (a .gy) (a .gx) ⌝ ∗ ⌜ AllNear (b .gz) (b .gy) (b .gx) ⌝ }
-    requires { ⌜ Tabled (setup .edges) (now list) distances (now keys) ⌝ }
+    requires { ⌜ Tabled (setup .edges) (now list) distances ⌝ }
     ensures { λ r. ⌜ indexOf r ≡ builtBin (setup .edges) (now (list .entry)) (distanceSquared (widthOf width) (blockOf a [] [] [] []) (blockOf b [] [] [] []) (idxOf o)) ⌝ }
 {
     let edges = setup.edges;
     let distance = distance_squared(width, a, b, o);
-    edge_table::bin_of(edges, list, keys, hints, distances, distance)
+    edge_table::bin_of(edges, list, distances, distance)
 }
 
 // The cells of the offset in a fresh state.
 fn sum_cells(
     setup: Setup,
-    values: Table,
+    edges: BuiltEdges,
+    table: Table,
     value_edges: &[f64],
-    value_keys: &[u64],
     hints: &[u8],
     a0: &[f64],
     a1: &[f64],
@@ -951,19 +1092,23 @@ fn sum_cells(
     bw: &[f64],
     b: Block,
     o: Idx3DOffset,
+    values: &mut [f64],
+    weights: &mut [f64],
+    room: &mut [f64],
+    found: &mut [usize],
     state: &mut [f64],
 )
     requires { ⌜ Ready (blockOf a (now a0) (now a1) (now a2) (now aw)) ⌝ ∗ ⌜ Ready (blockOf b (now b0) (now b1) (now b2) (now bw)) ⌝ ∗ ⌜ Reach (axesOf a) (axesOf b) (idxOf o) ⌝ }
-    requires { ⌜ TabledValues (setup .reducer) (now «value_edges») values (now «value_keys») ⌝ }
+    requires { ⌜ Binned setup edges (now «value_edges») table (length (now state)) ⌝ ∗ ⌜ Wide (length (now values)) (length (now weights)) (length (now room)) (length (now found)) ⌝ }
     ensures { λ _. ⌜ now (state .exit) ≡ offsetCells setup (now («value_edges» .entry)) (blockOf a (now (a0 .entry)) (now (a1 .entry)) (now (a2 .entry)) (now (aw .entry)))
         (blockOf b (now (b0 .entry)) (now (b1 .entry)) (now (b2 .entry)) (now (bw .entry))) (idxOf o) (fresh (length (now (state .entry)))) ⌝ }
 {
     clear(state);
     add_offset_cells(
         setup,
-        values,
+        edges,
+        table,
         value_edges,
-        value_keys,
         hints,
         a0,
         a1,
@@ -976,6 +1121,10 @@ fn sum_cells(
         bw,
         b,
         o,
+        values,
+        weights,
+        room,
+        found,
         state,
     );
 }
@@ -1010,9 +1159,9 @@ fn add_mean(
 // A histogram's cells, into its bin.
 fn add_histogram(
     setup: Setup,
-    values: Table,
+    edges: BuiltEdges,
+    table: Table,
     value_edges: &[f64],
-    value_keys: &[u64],
     hints: &[u8],
     a0: &[f64],
     a1: &[f64],
@@ -1026,19 +1175,23 @@ fn add_histogram(
     b: Block,
     o: Idx3DOffset,
     bin: usize,
+    values: &mut [f64],
+    weights: &mut [f64],
+    room: &mut [f64],
+    found: &mut [usize],
     state: &mut [f64],
     scratch: &mut [f64],
 )
     requires { ⌜ Ready (blockOf a (now a0) (now a1) (now a2) (now aw)) ⌝ ∗ ⌜ Ready (blockOf b (now b0) (now b1) (now b2) (now bw)) ⌝ ∗ ⌜ Reach (axesOf a) (axesOf b) (idxOf o) ⌝ }
-    requires { ⌜ TabledValues (setup .reducer) (now «value_edges») values (now «value_keys») ⌝ ∗ ⌜ Room (setup .«n_states») bin (length (now state)) (length (now scratch)) ⌝ }
+    requires { ⌜ Binned setup edges (now «value_edges») table (length (now state)) ⌝ ∗ ⌜ Wide (length (now values)) (length (now weights)) (length (now room)) (length (now found)) ⌝ ∗ ⌜ Room (setup .«n_states») bin (length (now state)) (length (now scratch)) ⌝ }
     ensures { λ _. ⌜ now (scratch .exit) ≡ mergedIn (some bin) (setup .«n_states») (offsetCells setup (now («value_edges» .entry)) (blockOf a (now (a0 .entry)) (now (a1 .entry)) (now (a2 .entry)) (now (aw .entry)))
         (blockOf b (now (b0 .entry)) (now (b1 .entry)) (now (b2 .entry)) (now (bw .entry))) (idxOf o) (fresh (length (now (state .entry))))) (now (scratch .entry)) ⌝ }
 {
     sum_cells(
         setup,
-        values,
+        edges,
+        table,
         value_edges,
-        value_keys,
         hints,
         a0,
         a1,
@@ -1051,6 +1204,10 @@ fn add_histogram(
         bw,
         b,
         o,
+        values,
+        weights,
+        room,
+        found,
         state,
     );
     merge_state(setup.n_states, bin, state, scratch);
@@ -1060,9 +1217,8 @@ fn add_histogram(
 fn add_in_bin(
     auto: bool,
     setup: Setup,
-    values: Table,
+    table: Table,
     value_edges: &[f64],
-    value_keys: &[u64],
     hints: &[u8],
     a0: &[f64],
     a1: &[f64],
@@ -1076,12 +1232,17 @@ fn add_in_bin(
     b: Block,
     o: Idx3DOffset,
     bin: usize,
+    values: &mut [f64],
+    weights: &mut [f64],
+    room: &mut [f64],
+    found: &mut [usize],
     state: &mut [f64],
     scratch: &mut [f64],
 )
     requires { ⌜ Ready (blockOf a (now a0) (now a1) (now a2) (now aw)) ⌝ ∗ ⌜ Ready (blockOf b (now b0) (now b1) (now b2) (now bw)) ⌝ ∗ ⌜ Reach (axesOf a) (axesOf b) (idxOf o) ⌝ }
-    requires { ⌜ (auto ≡ true → blockOf a (now a0) (now a1) (now a2) (now aw) ≡ blockOf b (now b0) (now b1) (now b2) (now bw)) ⌝ ∗ ⌜ TabledValues (setup .reducer) (now «value_edges») values (now «value_keys») ⌝ }
+    requires { ⌜ (auto ≡ true → blockOf a (now a0) (now a1) (now a2) (now aw) ≡ blockOf b (now b0) (now b1) (now b2) (now bw)) ⌝ ∗ ⌜ TabledValues (setup .reducer) (now «value_edges») table ⌝ }
     requires { ⌜ Room (setup .«n_states») bin (length (now state)) (length (now scratch)) ⌝ ∗ ⌜ length (now state) ≡ reducerSize (setup .reducer) (length (now «value_edges»)) ⌝ }
+    requires { ⌜ Wide (length (now values)) (length (now weights)) (length (now room)) (length (now found)) ⌝ }
     ensures { λ _. ⌜ now (scratch .exit) ≡ mergedIn (some bin) (setup .«n_states») (offsetCells setup (now («value_edges» .entry)) (blockOf a (now (a0 .entry)) (now (a1 .entry)) (now (a2 .entry)) (now (aw .entry)))
         (blockOf b (now (b0 .entry)) (now (b1 .entry)) (now (b2 .entry)) (now (bw .entry))) (idxOf o) (fresh (length (now (state .entry))))) (now (scratch .entry)) ⌝ }
 {
@@ -1125,11 +1286,11 @@ fn add_in_bin(
                 scratch,
             )
         }
-        Reducer::ComponentSumHistogram(_) => add_histogram(
+        Reducer::ComponentSumHistogram(edges) => add_histogram(
             setup,
-            values,
+            edges,
+            table,
             value_edges,
-            value_keys,
             hints,
             a0,
             a1,
@@ -1143,6 +1304,10 @@ fn add_in_bin(
             b,
             o,
             bin,
+            values,
+            weights,
+            room,
+            found,
             state,
             scratch,
         ),
@@ -1156,8 +1321,6 @@ fn add_offset(
     tables: Tables,
     list: &[f64],
     value_edges: &[f64],
-    keys: &[u64],
-    value_keys: &[u64],
     hints: &[u8],
     width: CellWidth,
     a0: &[f64],
@@ -1171,25 +1334,29 @@ fn add_offset(
     bw: &[f64],
     b: Block,
     o: Idx3DOffset,
+    values: &mut [f64],
+    weights: &mut [f64],
+    room: &mut [f64],
+    found: &mut [usize],
     state: &mut [f64],
     scratch: &mut [f64],
 )
     requires { ⌜ Ready (blockOf a (now a0) (now a1) (now a2) (now aw)) ⌝ ∗ ⌜ Ready (blockOf b (now b0) (now b1) (now b2) (now bw)) ⌝ ∗ ⌜ Reach (axesOf a) (axesOf b) (idxOf o) ⌝ }
     requires { ⌜ (auto ≡ true → blockOf a (now a0) (now a1) (now a2) (now aw) ≡ blockOf b (now b0) (now b1) (now b2) (now bw)) ⌝ }
-    requires { ⌜ Looked setup (now list) (now «value_edges») tables (now keys) (now «value_keys») ⌝ }
+    requires { ⌜ Looked setup (now list) (now «value_edges») tables ⌝ }
     requires { ⌜ Roomy setup (now list) (now «value_edges») (length (now state)) (length (now scratch)) ⌝ }
+    requires { ⌜ Wide (length (now values)) (length (now weights)) (length (now room)) (length (now found)) ⌝ }
     ensures { λ _. ⌜ now (scratch .exit) ≡ offsetAdded setup (now (list .entry)) (now («value_edges» .entry)) (widthOf width) (blockOf a (now (a0 .entry)) (now (a1 .entry)) (now (a2 .entry)) (now (aw .entry)))
         (blockOf b (now (b0 .entry)) (now (b1 .entry)) (now (b2 .entry)) (now (bw .entry))) (length (now (state .entry))) (idxOf o) (now (scratch .entry)) ⌝ }
 {
     let distances = tables.distances;
-    let values = tables.values;
-    match bin_of_offset(setup, distances, list, keys, hints, width, a, b, o) {
+    let table = tables.values;
+    match bin_of_offset(setup, distances, list, width, a, b, o) {
         BinIndex::At(bin) => add_in_bin(
             auto,
             setup,
-            values,
+            table,
             value_edges,
-            value_keys,
             hints,
             a0,
             a1,
@@ -1203,6 +1370,10 @@ fn add_offset(
             b,
             o,
             bin,
+            values,
+            weights,
+            room,
+            found,
             state,
             scratch,
         ),
@@ -1247,8 +1418,6 @@ fn add_number(
     tables: Tables,
     list: &[f64],
     value_edges: &[f64],
-    keys: &[u64],
-    value_keys: &[u64],
     hints: &[u8],
     width: CellWidth,
     a0: &[f64],
@@ -1262,12 +1431,17 @@ fn add_number(
     bw: &[f64],
     b: Block,
     i: usize,
+    values: &mut [f64],
+    weights: &mut [f64],
+    room: &mut [f64],
+    found: &mut [usize],
     state: &mut [f64],
     scratch: &mut [f64],
 )
     requires { ⌜ Ready (blockOf a (now a0) (now a1) (now a2) (now aw)) ⌝ ∗ ⌜ Ready (blockOf b (now b0) (now b1) (now b2) (now bw)) ⌝ ∗ ⌜ (auto ≡ true → blockOf a (now a0) (now a1) (now a2) (now aw) ≡ blockOf b (now b0) (now b1) (now b2) (now bw)) ⌝ ∗ ⌜ i < length (seqFor auto (axesOf a) (axesOf b)) ⌝ }
-    requires { ⌜ Looked setup (now list) (now «value_edges») tables (now keys) (now «value_keys») ⌝ }
+    requires { ⌜ Looked setup (now list) (now «value_edges») tables ⌝ }
     requires { ⌜ Roomy setup (now list) (now «value_edges») (length (now state)) (length (now scratch)) ⌝ }
+    requires { ⌜ Wide (length (now values)) (length (now weights)) (length (now room)) (length (now found)) ⌝ }
     ensures { λ _. ⌜ now (scratch .exit) ≡ numberAdded setup (now (list .entry)) (now («value_edges» .entry)) (widthOf width) (blockOf a (now (a0 .entry)) (now (a1 .entry)) (now (a2 .entry)) (now (aw .entry)))
         (blockOf b (now (b0 .entry)) (now (b1 .entry)) (now (b2 .entry)) (now (bw .entry))) (length (now (state .entry))) (getElem? (seqFor auto (axesOf a) (axesOf b)) i) (now (scratch .entry)) ⌝ }
 {
@@ -1278,8 +1452,6 @@ fn add_number(
             tables,
             list,
             value_edges,
-            keys,
-            value_keys,
             hints,
             width,
             a0,
@@ -1293,6 +1465,10 @@ fn add_number(
             bw,
             b,
             o,
+            values,
+            weights,
+            room,
+            found,
             state,
             scratch,
         ),
@@ -1307,8 +1483,6 @@ fn fill(
     tables: Tables,
     list: &[f64],
     value_edges: &[f64],
-    keys: &[u64],
-    value_keys: &[u64],
     hints: &[u8],
     width: CellWidth,
     a0: &[f64],
@@ -1321,12 +1495,17 @@ fn fill(
     b2: &[f64],
     bw: &[f64],
     b: Block,
+    values: &mut [f64],
+    weights: &mut [f64],
+    room: &mut [f64],
+    found: &mut [usize],
     state: &mut [f64],
     scratch: &mut [f64],
 )
     requires { ⌜ Ready (blockOf a (now a0) (now a1) (now a2) (now aw)) ⌝ ∗ ⌜ Ready (blockOf b (now b0) (now b1) (now b2) (now bw)) ⌝ ∗ ⌜ (auto ≡ true → blockOf a (now a0) (now a1) (now a2) (now aw) ≡ blockOf b (now b0) (now b1) (now b2) (now bw)) ⌝ }
-    requires { ⌜ Looked setup (now list) (now «value_edges») tables (now keys) (now «value_keys») ⌝ }
+    requires { ⌜ Looked setup (now list) (now «value_edges») tables ⌝ }
     requires { ⌜ Roomy setup (now list) (now «value_edges») (length (now state)) (length (now scratch)) ⌝ }
+    requires { ⌜ Wide (length (now values)) (length (now weights)) (length (now room)) (length (now found)) ⌝ }
     ensures { λ _. ⌜ now (scratch .exit) ≡ offsetsAdded setup (now (list .entry)) (now («value_edges» .entry)) (widthOf width) (blockOf a (now (a0 .entry)) (now (a1 .entry)) (now (a2 .entry)) (now (aw .entry)))
         (blockOf b (now (b0 .entry)) (now (b1 .entry)) (now (b2 .entry)) (now (bw .entry))) (length (now (state .entry))) (seqFor auto (axesOf a) (axesOf b)) (now (scratch .entry)) ⌝ }
 {
@@ -1338,8 +1517,6 @@ fn fill(
             tables,
             list,
             value_edges,
-            keys,
-            value_keys,
             hints,
             width,
             a0,
@@ -1353,20 +1530,22 @@ fn fill(
             bw,
             b,
             i,
+            values,
+            weights,
+            room,
+            found,
             state,
             scratch,
         );
     }
 }
 
-// The same, with the tables made here.
-fn fill_keyed(
+// The same, with the tables and hints made here.
+fn fill_hinted(
     auto: bool,
     setup: Setup,
     list: &[f64],
     value_edges: &[f64],
-    keys: &mut [u64],
-    value_keys: &mut [u64],
     hints: &mut [u8],
     width: CellWidth,
     a0: &[f64],
@@ -1379,31 +1558,35 @@ fn fill_keyed(
     b2: &[f64],
     bw: &[f64],
     b: Block,
+    values: &mut [f64],
+    weights: &mut [f64],
+    room: &mut [f64],
+    found: &mut [usize],
     state: &mut [f64],
     scratch: &mut [f64],
 )
     requires { ⌜ Ready (blockOf a (now a0) (now a1) (now a2) (now aw)) ⌝ ∗ ⌜ Ready (blockOf b (now b0) (now b1) (now b2) (now bw)) ⌝ ∗ ⌜ (auto ≡ true → blockOf a (now a0) (now a1) (now a2) (now aw) ≡ blockOf b (now b0) (now b1) (now b2) (now bw)) ⌝ }
     requires { ⌜ Findable setup (now list) (now «value_edges») ⌝ }
     requires { ⌜ Roomy setup (now list) (now «value_edges») (length (now state)) (length (now scratch)) ⌝ }
+    requires { ⌜ Wide (length (now values)) (length (now weights)) (length (now room)) (length (now found)) ⌝ }
     ensures { λ _. ⌜ now (scratch .exit) ≡ offsetsAdded setup (now (list .entry)) (now («value_edges» .entry)) (widthOf width) (blockOf a (now (a0 .entry)) (now (a1 .entry)) (now (a2 .entry)) (now (aw .entry)))
         (blockOf b (now (b0 .entry)) (now (b1 .entry)) (now (b2 .entry)) (now (bw .entry))) (length (now (state .entry))) (seqFor auto (axesOf a) (axesOf b)) (now (scratch .entry)) ⌝ }
 {
     let edges = setup.edges;
     let kind = setup.reducer;
     let distances = edge_table::table_of(edges, list, 0.0);
-    let values = edge_table::value_table_of(kind, value_edges, 510.0);
-    let tables = Tables { distances, values };
-    edge_table::keys_of(list, keys);
-    edge_table::keys_of(value_edges, value_keys);
-    edge_table::fill_hints(value_edges, values, hints);
+    let value_table = edge_table::value_table_of(kind, value_edges, 4094.0);
+    let tables = Tables {
+        distances,
+        values: value_table,
+    };
+    edge_table::fill_hints(value_edges, value_table, hints);
     fill(
         auto,
         setup,
         tables,
         list,
         value_edges,
-        keys,
-        value_keys,
         hints,
         width,
         a0,
@@ -1416,32 +1599,23 @@ fn fill_keyed(
         b2,
         bw,
         b,
+        values,
+        weights,
+        room,
+        found,
         state,
         scratch,
     );
 }
 
-// How many keys a search in so many edges wants.
-fn key_room(edges: usize) -> usize
-    ensures { λ r. ⌜ r ≤ 257 ⌝ }
-{
-    if edges < 2 {
-        return 0;
-    }
-    if edges <= 33 {
-        return 33;
-    }
-    257
-}
-
 // Edges that are found have hints.
 fn hint_room(edges: usize) -> usize
-    ensures { λ r. ⌜ r ≤ 512 ⌝ }
+    ensures { λ r. ⌜ r ≤ 4096 ⌝ }
 {
     if edges < 2 {
         return 0;
     }
-    512
+    4096
 }
 
 // The same, with the tables' room.
@@ -1470,19 +1644,17 @@ fn fill_tabled(
     ensures { λ _. ⌜ now (scratch .exit) ≡ offsetsAdded setup (now (list .entry)) (now («value_edges» .entry)) (widthOf width) (blockOf a (now (a0 .entry)) (now (a1 .entry)) (now (a2 .entry)) (now (aw .entry)))
         (blockOf b (now (b0 .entry)) (now (b1 .entry)) (now (b2 .entry)) (now (bw .entry))) (length (now (state .entry))) (seqFor auto (axesOf a) (axesOf b)) (now (scratch .entry)) ⌝ }
 {
-    let mut keys = [0u64; 257];
-    let mut value_keys = [0u64; 257];
-    let mut hints = [0u8; 512];
-    let room = key_room(list.len());
-    let value_room = key_room(value_edges.len());
+    let mut hints = [0u8; 4096];
+    let mut values = [0.0; 64];
+    let mut weights = [0.0; 64];
+    let mut quotients = [0.0; 64];
+    let mut found = [0usize; 64];
     let hint_room = hint_room(value_edges.len());
-    fill_keyed(
+    fill_hinted(
         auto,
         setup,
         list,
         value_edges,
-        &mut keys[..room],
-        &mut value_keys[..value_room],
         &mut hints[..hint_room],
         width,
         a0,
@@ -1495,6 +1667,10 @@ fn fill_tabled(
         b2,
         bw,
         b,
+        &mut values,
+        &mut weights,
+        &mut quotients,
+        &mut found,
         state,
         scratch,
     );

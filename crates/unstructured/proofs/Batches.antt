@@ -3,22 +3,21 @@ use mathlib.Core.Path.{_≡_, refl, sym, ap, subst, _∙_}
 use mathlib.Core.Option.{Option, none, some}
 use mathlib.Core.Bool.{Bool, true, false, cond, _&&_}
 use mathlib.Core.Logic.{⊎-elim}
-use mathlib.Core.List.{List, [], _∷_, _++_, map, map-map, map-append}
+use mathlib.Core.List.{List, [], _∷_, _++_, map, map-append}
 use Prim.Native.Nat.{ℕ, zero, suc, _+_, _-_, _*_, _<_, _≤_, zero-le}
 use native.Mathlib.Nat.{eq-or-lt-of-le, lt-irrefl, add-zero, zero-add, le-refl, not-suc-le-zero, le-of-suc-le-suc}
 use native.Mathlib.Numerals.{add-one}
 use native.Mathlib.Omega.{arith}
 use lib.Dec.{T, ltb, leb}
-use lib.ListN.{length, getD, set, take, length-map, List·getD-map}
+use lib.ListN.{length, getD, set, take, length-map}
 use lib.Seq.{getD-set-same, getD-set-other, take-suc, take-set-le, take-suc-set, take-length, length-take-le, ext-getD}
 use lib.Ieee.{Float, nan, binary64, lt, le, fits}
 use lib.Ieee.Bits.{is-true}
 use lib.Ieee.Fits.{nan-fits, add-fits}
-use borrow.Author.Tests.{ltb-true, le-ltb, lt-leb}
+use borrow.Author.Tests.{ltb-true, lt-leb}
 use Rattle.definitions.specs.Bins.{below}
 use Rattle.definitions.specs.Points as points
 use Rattle.definitions.specs.Points.{squaredDiffNorm}
-use Rattle.definitions.specs.Reducer as kinds
 use Rattle.definitions.specs.Reducer.{Datum, componentSum, pairIn, datumOf}
 use Rattle.laws.proofs.Loops.{runOn, run-append}
 use Rattle.reducer.specs.declared.BuiltEdges.{BuiltEdges}
@@ -29,7 +28,7 @@ use Rattle.reducer.specs.Readings.{opOf}
 use Rattle.reducer.specs.Consume.{reducerSize, builtBins, builtBin, hasRoom, addIn, consumedAt, consumed}
 use Rattle.reducer.proofs.Ways.{consumed-found}
 use Rattle.edge_table.specs.declared.Table.{Table}
-use Rattle.edge_table.specs.Table.{keysTo, keysOf, numberOr, insideBin, foundOf, droppedOf}
+use Rattle.edge_table.specs.Table.{numberOr, insideBin, foundOf, droppedOf}
 use Rattle.edge_table.specs.Tabled.{EndsOf, Tabled, TabledValues}
 use Rattle.edge_table.proofs.Batch.{found-map, inside-bin, dropped-bin}
 use Rattle.edge_table.proofs.Lookup.{bin-low, bin-high}
@@ -212,6 +211,13 @@ module _ (setup : Setup) (m : ℕ) (a : points.Point) (g : ℕ → points.Point)
       k ∙ (λ i. pairPlaced setup m (getD valueFound q 0) ((p ∙ ap (λ (y : points.Point). numberedPair setup a y (getD found q 0)) e) i) (h i))
       ∙ ap (λ (n : ℕ). placedTo a g j setup m places found valueFound n z) (sym (add-one q))
 
+  -- the same with the operation written out
+  pub placed-by : (o : PairOperation) (s r : List Float) → setup .op ≡ o
+      → r ≡ placedTo a g j (record { op = o; edges = setup .edges; reducer = setup .reducer; «n_states» = setup .«n_states» }) m places found valueFound (length places) s
+      → r ≡ placedTo a g j setup m places found valueFound (length places) s
+  placed-by o s r e h =
+      h ∙ sym (λ i. placedTo a g j (record { op = e i; edges = setup .edges; reducer = setup .reducer; «n_states» = setup .«n_states» }) m places found valueFound (length places) s)
+
   module _ (f : ℕ → List Float → List Float) (h : (q : ℕ) → q < length places → (t : List Float)
       → pairPlaced setup m (getD valueFound q 0) (numberedPair setup a (g (j + getD places q 0)) (getD found q 0)) t ≡ f (getD places q 0) t) where
     placed-taken : (q : ℕ) (s : List Float) → q ≤ length places → placedTo a g j setup m places found valueFound q s ≡ runOn f (take q places) s
@@ -285,7 +291,7 @@ module _ (setup : Setup) (list valueEdges : List Float) (a : points.Point) (g : 
       ap (rowAdded setup list valueEdges a g (j + m) (n - (j + m))) e ∙ sym (row-join j m (n - (j + m)) s) ∙ sym (ap (λ (x : ℕ). rowAdded setup list valueEdges a g j x s) k) ∙ inv
 
   -- ---- a batch: its listed pairs are the row's
-  module _ (hints : List ℕ) (table : Table) (tabled : Tabled (setup .edges) list table []) (d : List Float) (m j : ℕ) (distant : (e : ℕ) → e < m → getD d e nan ≡ squaredDiffNorm a (g (j + e)))
+  module _ (hints : List ℕ) (table : Table) (tabled : Tabled (setup .edges) list table) (d : List Float) (m j : ℕ) (distant : (e : ℕ) → e < m → getD d e nan ≡ squaredDiffNorm a (g (j + e)))
       (valueFound : List ℕ) where
     abbrev listed : List ℕ
     listed = keptBelow (table .first) (table .last) d m
@@ -302,7 +308,7 @@ module _ (setup : Setup) (list valueEdges : List Float) (a : points.Point) (g : 
     found-number : (e : ℕ) → e < m → lt (getD d e nan) (table .first) ≡ false → le (table .last) (getD d e nan) ≡ false
         → binNumber (getD d e nan) ≡ numberOr (builtBin (setup .edges) list (squaredDiffNorm a (g (j + e))))
     found-number e h p q =
-        ap numberOr (inside-bin list [] hints table (setup .edges) (getD d e nan) tabled (distant-fits e h) p q ∙ ap (builtBin (setup .edges) list) (distant e h))
+        ap numberOr (inside-bin list hints table (setup .edges) (getD d e nan) tabled (distant-fits e h) p q ∙ ap (builtBin (setup .edges) list) (distant e h))
 
     pair-placed : (q : ℕ) → q < length listed → (t : List Float)
         → pairPlaced setup (length valueEdges) (getD (valueNumbers (setup .reducer) valueEdges (map value listed) valueFound) q 0)
@@ -342,10 +348,6 @@ module _ (a : points.Point) (g : ℕ → points.Point) (j : ℕ) (op : PairOpera
   values-fit (p ∷ l) (suc i) = values-fit l i
 
 -- ---- lookups
-pub no-keys : (list : List Float) → [] ≡ keysOf list []
-unfolding keysOf keysTo
-no-keys list = refl
-
 module _ (kind : Reducer) (edges : List Float) (found : List ℕ) (x : List Float) where
   pub value-mean0 : kind ≡ Comp0Mean → found ≡ valueNumbers kind edges x found
   unfolding valueNumbers
@@ -356,13 +358,13 @@ module _ (kind : Reducer) (edges : List Float) (found : List ℕ) (x : List Floa
   value-mean h = rw h
 
   -- y is what the values were written to, q and r what the two lookups left
-  pub value-found : (e : BuiltEdges) (hints : List ℕ) (table : Table) (room y : List Float) (q r : List ℕ) → kind ≡ ComponentSumHistogram e → TabledValues kind edges table []
+  pub value-found : (e : BuiltEdges) (hints : List ℕ) (table : Table) (room y : List Float) (q r : List ℕ) → kind ≡ ComponentSumHistogram e → TabledValues kind edges table
       → ((i : ℕ) → T (fits binary64 (getD x i nan))) → length room ≡ length y → length found ≡ length y → y ≡ x → q ≡ foundOf e edges hints table y room found → r ≡ droppedOf table y q
       → r ≡ valueNumbers kind edges x found
   unfolding valueNumbers
   value-found e hints table room y q r h t f k l same p z =
       z ∙ ap (droppedOf table y) p
-      ∙ dropped-bin edges [] hints table e (subst (λ (k : Reducer). TabledValues k edges table []) h t) y room found (λ i. subst (λ (w : List Float). T (fits binary64 (getD w i nan))) (sym same) (f i)) k l
+      ∙ dropped-bin edges hints table e (subst (λ (k : Reducer). TabledValues k edges table) h t) y room found (λ i. subst (λ (w : List Float). T (fits binary64 (getD w i nan))) (sym same) (f i)) k l
       ∙ ap (map (λ v. numberOr (builtBin e edges v))) same ∙ (rw h)
 
 -- the pairs added by what the lookups left

@@ -1,5 +1,4 @@
 -- What the rows in batches promise and ask: lookups by tables, the places of a batch that are not outside the ends.
-use mathlib.Core.Path.{_≡_}
 use mathlib.Core.Option.{some}
 use mathlib.Core.List.{List, [], _∷_, _++_, map}
 use mathlib.Core.Bool.{Bool, true, false}
@@ -27,9 +26,9 @@ pub record UsableRun (setup : Setup) (list valueEdges : List Float) : Type 0 whe
   pub values : UsableValues (setup .reducer) valueEdges
 
 -- these are their tables
-pub record TabledRun (setup : Setup) (list valueEdges : List Float) (tables : Tables) (keys valueKeys : List ℕ) : Type 0 where
-  pub edges : Tabled (setup .edges) list (tables .edges) keys
-  pub values : TabledValues (setup .reducer) valueEdges (tables .values) valueKeys
+pub record TabledRun (setup : Setup) (list valueEdges : List Float) (tables : Tables) : Type 0 where
+  pub edges : Tabled (setup .edges) list (tables .edges)
+  pub values : TabledValues (setup .reducer) valueEdges (tables .values)
 
 -- a batch of m points has room in each slice
 pub record Rooms (m : ℕ) (d room : List Float) (places found valueFound : List ℕ) : Type 0 where

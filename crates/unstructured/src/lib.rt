@@ -27,7 +27,7 @@ ghost use Rattle.edge_table.specs.Tabled.{TabledValues};
 ghost use Rattle.parallel_serial.specs.Drive.{zeroPack, addedScratch};
 ghost use Rattle.parallel_serial.proofs.Refusals.{Drivable};
 ghost use Rattle.unstructured.specs.Readings.{strideOf, pointsOf, setsRun, autoRun, crossRun};
-ghost use Rattle.unstructured.specs.Pairs.{thePair, thePoint, pointIn, pointsIn, Holds, Readable, Held, firstPartner, setsFor, pairAdded, rowAdded, filled, setsNumber};
+ghost use Rattle.unstructured.specs.Pairs.{thePair, thePoint, pointIn, pointsIn, Holds, Readable, Held, firstPartner, setsFor, rowAdded, filled, setsNumber};
 ghost use Rattle.unstructured.specs.Batches.{UsableRun, TabledRun, Rooms, Listed, inside, keptBelow, picked, numberedPair, pairPlaced, pairValues, placedTo, valueNumbers, placesAdded};
 
 // The stride of positions and values; left out it is the number of points.
@@ -325,7 +325,7 @@ fn value_bins(
     room: &mut [f64],
     found: &mut [usize],
 )
-    requires { ⌜ TabledValues (setup .reducer) (now «value_edges») table [] ⌝ }
+    requires { ⌜ TabledValues (setup .reducer) (now «value_edges») table ⌝ }
     requires { ⌜ Readable (now positions) (now values) (now weights) (j + m) stride ⌝ }
     requires { ⌜ Listed m (now places) ⌝ }
     requires { ⌜ (length (now d) ≡ length (now places)) × (length (now room) ≡ length (now places)) × (length (now found) ≡ length (now places)) ⌝ }
@@ -339,7 +339,16 @@ fn value_bins(
         Reducer::ComponentSumMean => {}
         Reducer::ComponentSumHistogram(edges) => {
             pair_values(
-                op, a, positions, values, weights, stride, j, m, places, &mut *d,
+                op,
+                a,
+                positions,
+                values,
+                weights,
+                stride,
+                j,
+                m,
+                places,
+                &mut *d,
             );
             edge_table::bins_of(edges, value_edges, hints, table, &*d, room, &mut *found);
             edge_table::drop_outside(table, &*d, &mut *found);
@@ -348,7 +357,7 @@ fn value_bins(
 }
 
 // The pairs of a with the listed points, whose bins and whose values' bins have been found.
-fn add_listed(
+fn add_pairs(
     setup: Setup,
     value_len: usize,
     a: Point,
@@ -378,6 +387,82 @@ fn add_listed(
     }
 }
 
+// The same; the operation is matched once for all of them.
+fn add_listed(
+    setup: Setup,
+    value_len: usize,
+    a: Point,
+    positions: &[f64],
+    values: &[f64],
+    weights: &[f64],
+    stride: usize,
+    j: usize,
+    m: usize,
+    places: &[usize],
+    found: &[usize],
+    value_found: &[usize],
+    scratch: &mut [f64],
+)
+    requires { ⌜ Readable (now positions) (now values) (now weights) (j + m) stride ⌝ }
+    requires { ⌜ Listed m (now places) ⌝ }
+    requires { ⌜ (length (now found) ≡ length (now places)) × (length (now «value_found») ≡ length (now places)) ⌝ }
+    ensures { λ _. ⌜ now (scratch .exit) ≡ placedTo (thePoint a) (pointIn (now (positions .entry)) (now (values .entry)) (now (weights .entry)) stride) j setup «value_len»
+        (now (places .entry)) (now (found .entry)) (now («value_found» .entry)) (length (now (places .entry))) (now (scratch .entry)) ⌝ }
+{
+    let edges = setup.edges;
+    let reducer = setup.reducer;
+    let n_states = setup.n_states;
+    let op = setup.op;
+    match op {
+        PairOperation::ElementwiseMultiply => {
+            let op = PairOperation::ElementwiseMultiply;
+            add_pairs(
+                Setup {
+                    op,
+                    edges,
+                    reducer,
+                    n_states,
+                },
+                value_len,
+                a,
+                positions,
+                values,
+                weights,
+                stride,
+                j,
+                m,
+                places,
+                found,
+                value_found,
+                scratch,
+            )
+        }
+        PairOperation::ElementwiseSub => {
+            let op = PairOperation::ElementwiseSub;
+            add_pairs(
+                Setup {
+                    op,
+                    edges,
+                    reducer,
+                    n_states,
+                },
+                value_len,
+                a,
+                positions,
+                values,
+                weights,
+                stride,
+                j,
+                m,
+                places,
+                found,
+                value_found,
+                scratch,
+            )
+        }
+    }
+}
+
 // The pairs of a with the listed points, whose distances are in d. d, room, found and value_found are room.
 fn add_places(
     setup: Setup,
@@ -400,7 +485,7 @@ fn add_places(
     value_found: &mut [usize],
     scratch: &mut [f64],
 )
-    requires { ⌜ TabledRun setup (now list) (now «value_edges») tables [] [] ⌝ }
+    requires { ⌜ TabledRun setup (now list) (now «value_edges») tables ⌝ }
     requires { ⌜ Readable (now positions) (now values) (now weights) (j + m) stride ⌝ }
     requires { ⌜ Listed m (now places) ⌝ }
     requires { ⌜ (length (now d) ≡ length (now places)) × (length (now room) ≡ length (now places)) × (length (now found) ≡ length (now places)) × (length (now «value_found») ≡ length (now places)) ⌝ }
@@ -474,7 +559,7 @@ fn add_batch(
     value_found: &mut [usize],
     scratch: &mut [f64],
 )
-    requires { ⌜ TabledRun setup (now list) (now «value_edges») tables [] [] ⌝ }
+    requires { ⌜ TabledRun setup (now list) (now «value_edges») tables ⌝ }
     requires { ⌜ Readable (now positions) (now values) (now weights) (j + m) stride ⌝ }
     requires { ⌜ Rooms m (now d) (now room) (now places) (now found) (now «value_found») ⌝ }
     ensures { λ _. ⌜ now (scratch .exit) ≡ rowAdded setup (now (list .entry)) (now («value_edges» .entry)) (thePoint a)
@@ -528,7 +613,7 @@ fn add_batches(
     value_found: &mut [usize],
     scratch: &mut [f64],
 )
-    requires { ⌜ TabledRun setup (now list) (now «value_edges») tables [] [] ⌝ }
+    requires { ⌜ TabledRun setup (now list) (now «value_edges») tables ⌝ }
     requires { ⌜ Readable (now positions) (now values) (now weights) n stride ⌝ }
     requires { ⌜ (0 < length (now d)) × Rooms (length (now d)) (now d) (now room) (now places) (now found) (now «value_found») ⌝ }
     ensures { λ _. ⌜ now (scratch .exit) ≡ rowAdded setup (now (list .entry)) (now («value_edges» .entry)) (thePoint a)
@@ -597,7 +682,7 @@ fn fill_batches(
     value_found: &mut [usize],
     scratch: &mut [f64],
 )
-    requires { ⌜ TabledRun setup (now list) (now «value_edges») tables [] [] ⌝ }
+    requires { ⌜ TabledRun setup (now list) (now «value_edges») tables ⌝ }
     requires { ⌜ Readable (now «a_positions») (now «a_values») (now «a_weights») «a_n» «a_stride» ⌝ }
     requires { ⌜ Readable (now «b_positions») (now «b_values») (now «b_weights») «b_n» «b_stride» ⌝ }
     requires { ⌜ (auto ≡ true → (pointIn (now «a_positions») (now «a_values») (now «a_weights») «a_stride» ≡ pointIn (now «b_positions») (now «b_values») (now «b_weights») «b_stride») × («a_n» ≡ «b_n»)) ⌝ }
@@ -769,11 +854,11 @@ fn fill_few(
     let value_h = 0;
     let mut hints = [0u8; 1];
     let mut value_hints = [0u8; 1];
-    let mut d = [0.0f64; 32];
-    let mut room = [0.0f64; 32];
-    let mut places = [0usize; 32];
-    let mut found = [0usize; 32];
-    let mut value_found = [0usize; 32];
+    let mut d = [0.0f64; 16];
+    let mut room = [0.0f64; 16];
+    let mut places = [0usize; 16];
+    let mut found = [0usize; 16];
+    let mut value_found = [0usize; 16];
     fill_tabled(
         auto,
         setup,
@@ -867,7 +952,7 @@ fn fill_many(
 fn few_points(edges: BuiltEdges, n: usize) -> bool {
     match edges {
         BuiltEdges::Regular(_) => n < 33,
-        BuiltEdges::Irregular => n < 20,
+        BuiltEdges::Irregular => n < 10,
     }
 }
 

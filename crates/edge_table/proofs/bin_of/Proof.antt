@@ -4,7 +4,7 @@ use Rattle.edge_table.proofs.bin_of.Statement.{statement}
 use Rattle.edge_table.proofs.bin_of.Tie as tie
 use Rattle.edge_table.proofs.bin_of.Reads as reads
 use Rattle.edge_table.proofs.bin_of.Lts as lts
-use Rattle.edge_table.proofs.keyed_bin.Reads as keyed-bin-reads
+use Rattle.edge_table.proofs.edge_bin.Reads as edge-bin-reads
 use Rattle.reducer.proofs.bin_of.Reads as bin-of-reads
 
 -- src/lib.rt:257:35
@@ -20,8 +20,8 @@ enum-told-2 : tie.Need-enum-told-2
 enum-told-2 c = search needs
 
 -- src/lib.rt:258:34
-keyed-bin-requires : tie.Need-keyed-bin-requires
-keyed-bin-requires c κs = search needs
+edge-bin-requires : tie.Need-edge-bin-requires
+edge-bin-requires c κs = search needs
 
 -- src/lib.rt:246:1
 returns : tie.Need-returns
@@ -33,4 +33,4 @@ returns-2 c = search bin-irregular
 
 pub bin-of-spec : {M : Type 1} → statement M
 bin-of-spec =
-    tie.close (tie.spec enum-told bin-of-requires enum-told-2 keyed-bin-requires returns returns-2)
+    tie.close (tie.spec enum-told bin-of-requires enum-told-2 edge-bin-requires returns returns-2)

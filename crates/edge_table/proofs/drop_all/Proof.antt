@@ -1,9 +1,9 @@
 use borrow.Author.Needs.{needs}
-use mathlib.Core.Path.{_≡_, refl}
+use mathlib.Core.Path.{_≡_}
 use mathlib.Core.List.{_++_}
 use Prim.Native.Nat.{_-_, _≤_, zero-le}
 use native.Mathlib.Omega.{arith}
-use lib.ListN.{length, take, drop, length-set}
+use lib.ListN.{length, take, drop}
 use Rattle.edge_table.specs.Table.{dropped}
 use Rattle.edge_table.proofs.Batch.{dropped-none, dropped-next, dropped-done}
 use Rattle.edge_table.proofs.drop_all.Statement.{statement}

@@ -1,6 +1,5 @@
-use mathlib.Core.Path.{sym, _∙_, refl}
+use mathlib.Core.Path.{sym, refl}
 use native.Mathlib.Omega.{arith}
-use Rattle.floats.proofs.Keys.{number-of}
 use Rattle.edge_table.proofs.Batch.{hinted-quick}
 use Rattle.edge_table.specs.Table.{placeOf}
 use borrow.Author.Needs.{needs}

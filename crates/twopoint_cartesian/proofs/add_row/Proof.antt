@@ -1,72 +1,60 @@
-use mathlib.Core.Path.{_≡_, refl}
-use Prim.Native.Nat.{_≤_, _-_}
 use native.Mathlib.Omega.{arith}
-use lib.ListN.{length}
+use Rattle.twopoint_cartesian.proofs.Rows.{row-done}
 use borrow.Author.Needs.{needs}
-use Rattle.twopoint_cartesian.specs.Cells.{fields, rowAdded}
-use Rattle.twopoint_cartesian.proofs.Loops.{row-start, row-turn, row-done}
 use Rattle.twopoint_cartesian.proofs.add_row.Statement.{statement}
 use Rattle.twopoint_cartesian.proofs.add_row.Tie as tie
 use Rattle.twopoint_cartesian.proofs.add_row.Reads as reads
 use Rattle.twopoint_cartesian.proofs.add_row.Lts as lts
-use Rattle.twopoint_cartesian.proofs.add_cells.Reads as add-cells-reads
+use Rattle.twopoint_cartesian.proofs.add_weights.Reads as add-weights-reads
+use Rattle.twopoint_cartesian.proofs.find_bins.Reads as find-bins-reads
+use Rattle.twopoint_cartesian.proofs.gather_row.Reads as gather-row-reads
 
-abbrev Inv-loop : tie.InvT-loop
-Inv-loop setup values value-edges value-keys hints a0 a1 a2 aw b0 b1 b2 bw i j n state₀ x₀ state x =
-    (x ≤ n) × (length state ≡ length state₀)
-    × (rowAdded setup value-edges (fields a0 a1 a2 aw) (fields b0 b1 b2 bw) i j x (n - x) state ≡ rowAdded setup value-edges (fields a0 a1 a2 aw) (fields b0 b1 b2 bw) i j 0 n state₀)
+-- src/lib.rt:446:5
+gather-row-requires : tie.Need-gather-row-requires
+gather-row-requires c κs = search needs
 
-abbrev μ-loop : tie.MeasureT-loop
-μ-loop setup values value-edges value-keys hints a0 a1 a2 aw b0 b1 b2 bw i j n state₀ x₀ state x = n - x
+-- src/lib.rt:462:5
+find-bins-requires : tie.Need-find-bins-requires
+find-bins-requires c κs = let s = c .before .before .before .before .before .before .before .before .before .before .before .before .before .before .before .before .before .before .before .before .before .before .before .before .before in (s .pre .1 .1 .0 .tabled, (omega (arith, s .pre .1 .1 .1, c .before .before .before .before .before .before .before .gather-row .kept), omega (arith, s .pre .1 .1 .1, c .before .before .before .before .before .before .before .gather-row .kept)))
 
--- src/lib.rt:141:5
-loop-holds : tie.Need-loop-holds Inv-loop μ-loop
-loop-holds c = (omega arith, refl, search row-start)
+-- src/lib.rt:463:5
+add-weights-requires : tie.Need-add-weights-requires
+add-weights-requires c κs = let s = c .before .before .before .before .before .before .before .before .before .before .before .before .before .before .before .before .before .before .before .before .before .before .before .before .before .before .before .before .before .before .before .before .before .before in let g = c .before .before .before .before .before .before .before .before .before .before .before .before .before .before .before .before .gather-row .kept in let f = c .before .before .before .before .before .before .before .before .find-bins .kept in (omega (arith, s .pre .1 .1 .1, g, f), (omega (arith, s .pre .1 .1 .1, g, f), s .pre .1 .1 .0 .small))
 
--- src/lib.rt:142:70
-add-add-cells : tie.Need-add-add-cells Inv-loop μ-loop
-add-add-cells c = search needs
-
--- src/lib.rt:142:77
-add-add-cells-2 : tie.Need-add-add-cells-2 Inv-loop μ-loop
-add-add-cells-2 c = search needs
-
--- src/lib.rt:142:9
-add-cells-requires : tie.Need-add-cells-requires Inv-loop μ-loop
-add-cells-requires c κs = (search needs, (search needs, c .before .before .before .before .before .before .before .before .before .before .before .before .before .before .before .pre .1 .1))
-
--- src/lib.rt:141:9
-add-x : tie.Need-add-x Inv-loop μ-loop
-add-x c = search needs
-
--- src/lib.rt:141:5
-loop-less : tie.Need-loop-less Inv-loop μ-loop
-loop-less c = search needs
-
--- src/lib.rt:141:5
-loop-again : tie.Need-loop-again Inv-loop μ-loop
-loop-again c = (omega arith, search needs, row-turn _ _ _ _ _ _ _ _ _ _ _ (c .before .before .before .before .loop-test .taken) (c .before .before .add-cells .ensures) (c .before .before .before .before .before .loop .inv .2))
-
--- src/lib.rt:121:1
-same-length : tie.Need-same-length Inv-loop μ-loop
+-- src/lib.rt:418:1
+same-length : tie.Need-same-length
 same-length c = search needs
 
--- src/lib.rt:121:1
-returns : tie.Need-returns Inv-loop μ-loop
-returns c = search row-done
+-- src/lib.rt:418:1
+same-length-2 : tie.Need-same-length-2
+same-length-2 c = search needs
+
+-- src/lib.rt:418:1
+same-length-3 : tie.Need-same-length-3
+same-length-3 c = search needs
+
+-- src/lib.rt:418:1
+same-length-4 : tie.Need-same-length-4
+same-length-4 c = search needs
+
+-- src/lib.rt:418:1
+same-length-5 : tie.Need-same-length-5
+same-length-5 c = search needs
+
+-- src/lib.rt:418:1
+returns : tie.Need-returns
+returns c = let s = c .before .before .before .before .before .before .before .before .before .before .before .before .before .before .before .before .before .before .before .before .before .before .before .before .before .before .before .before .before .before .before .before .before .before .before .before .before in row-done (s .args .setup) (s .args .value-edges .now) _ _ (s .args .edges) (s .args .table) (s .args .i) (s .args .j) (s .args .n) (s .args .values .now) (s .args .weights .now) (s .args .state .now) (s .pre .1 .1 .0) _ _ _ (s .pre .1 .1 .1 .values) (c .before .before .before .before .before .before .before .before .before .before .before .before .before .before .before .before .before .before .before .gather-row .ensures .0) (c .before .before .before .before .before .before .before .before .before .before .before .before .before .before .before .before .before .before .before .gather-row .ensures .1) (c .before .before .before .before .before .before .before .before .before .before .before .find-bins .ensures) _ (c .before .before .add-weights .ensures)
 
 pub add-row-spec : {M : Type 1} → statement M
 add-row-spec =
     tie.close
     (tie.spec
-    Inv-loop
-    μ-loop
-    loop-holds
-    add-add-cells
-    add-add-cells-2
-    add-cells-requires
-    add-x
-    loop-less
-    loop-again
+    gather-row-requires
+    find-bins-requires
+    add-weights-requires
     same-length
+    same-length-2
+    same-length-3
+    same-length-4
+    same-length-5
     returns)

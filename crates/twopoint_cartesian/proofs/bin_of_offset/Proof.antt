@@ -19,8 +19,7 @@ bin-of-requires c κs = search needs
 
 -- src/lib.rt:299:1
 returns : tie.Need-returns
-returns c =
-    found-bin _ _ _ _ _ _ _ (c .bin-of .ensures) (c .before .before .before .before .before .pre .1 .1 .1) (c .before .distance-squared .ok) ∙ ap (builtBin _ _) (c .before .distance-squared .ensures)
+returns c = found-bin _ _ _ _ _ (c .bin-of .ensures) (c .before .before .before .pre .1 .1 .1) (c .before .distance-squared .ok) ∙ ap (builtBin _ _) (c .before .distance-squared .ensures)
 
 pub bin-of-offset-spec : {M : Type 1} → statement M
 bin-of-offset-spec = tie.close (tie.spec distance-squared-requires bin-of-requires returns)

@@ -1,4 +1,4 @@
-use mathlib.Core.Path.{_≡_, sym, _∙_}
+use mathlib.Core.Path.{sym, _∙_}
 use Rattle.unstructured.specs.Pairs.{thePoint, pointIn}
 use Rattle.unstructured.proofs.Batches.{places-added}
 use borrow.Author.Needs.{needs}
@@ -52,7 +52,7 @@ returns c = let s = c .before .before .before .before .before .before .before .b
     let x = s .args in
     let l = s .pre .1 .1 .1 in
     places-added (x .setup) (x .list .now) (x .value-edges .now) (x .hints .now) (x .tables .edges) (thePoint (x .a)) (pointIn (x .positions .now) (x .values .now) (x .weights .now) (x .stride)) (x .j) (x .places .now) (x .d .now) (x .room .now) (x .found .now) (x .value-found .now) _ _ (x .scratch .now) _
-        (l .1 ∙ sym (l .0)) (l .2 ∙ sym (l .0)) (c .before .before .before .before .before .before .before .before .before .before .before .before .before .before .before .before .before .before .before .before .bins-of .ensures .1) (c .before .before .before .before .before .before .before .before .before .before .before .before .value-bins .ensures) (c .before .before .add-listed .ensures)
+    (l .1 ∙ sym (l .0)) (l .2 ∙ sym (l .0)) (c .before .before .before .before .before .before .before .before .before .before .before .before .before .before .before .before .before .before .before .before .bins-of .ensures .1) (c .before .before .before .before .before .before .before .before .before .before .before .before .value-bins .ensures) (c .before .before .add-listed .ensures)
 
 pub add-places-spec : {M : Type 1} → statement M
 add-places-spec =

@@ -1,5 +1,4 @@
 use Rattle.edge_table.proofs.Lookup.{tabled, tabled-values}
-use Rattle.unstructured.proofs.Batches.{no-keys}
 use borrow.Author.Needs.{needs}
 use Rattle.unstructured.proofs.fill_tabled.Statement.{statement}
 use Rattle.unstructured.proofs.fill_tabled.Tie as tie
@@ -40,8 +39,8 @@ fill-batches-requires : tie.Need-fill-batches-requires
 fill-batches-requires c κs = let s = c .before .before .before .before .before .before .before .before .before .before .before .before .before .before .before .before .before .before .before .before .before .before .before .before .before .before .before .before .before .before .before .before .before .before .before .before in
     let x = s .args in (
       record {
-        edges = tabled _ _ _ _ _ _ (s .pre .0 .edges) (c .before .before .before .before .before .before .before .before .before .before .before .before .before .before .before .before .before .before .table-of .ensures) (no-keys (x .list .now));
-        values = tabled-values _ (c .before .before .before .before .before .before .before .before .before .before .before .before .before .before .before .before .before .span-of2 .result) _ _ _ (x .setup .reducer) (s .pre .0 .values) (c .before .before .before .before .before .before .before .before .before .before .before .before .before .before .before .before .value-table-of .ensures) (no-keys (x .value-edges .now));
+        edges = tabled _ _ _ _ (s .pre .0 .edges) (c .before .before .before .before .before .before .before .before .before .before .before .before .before .before .before .before .before .before .table-of .ensures);
+        values = tabled-values _ (c .before .before .before .before .before .before .before .before .before .before .before .before .before .before .before .before .before .span-of2 .result) _ (x .setup .reducer) (s .pre .0 .values) (c .before .before .before .before .before .before .before .before .before .before .before .before .before .before .before .before .value-table-of .ensures);
       },
       s .pre .1,
     )

@@ -80,7 +80,7 @@ loop-again c = let x = c .before .before .before .before .before .before .args i
     let h : w ≤ 1 = bits-le (Ieee.lt v (x .table .first)) (Ieee.le (x .table .last) v) in (
       omega arith,
       omega (arith, f, h),
-      length-set (t .d) (t .c) (getD (t .d) (t .e) nan) ∙ t .inv .2,
+      search needs,
       length-set (t .places) (t .c) (t .e) ∙ t .inv .3,
       ap (λ (n : ℕ). take (t .c + n) (set (t .places) (t .c) (t .e))) f ∙ one-more (t .places) (t .c) w (t .e) _ h (omega arith) (t .inv .4) ∙ sym (kept-next _ _ _ _),
       (λ i. take (t .c + f i) (set (t .d) (t .c) (same i))) ∙ one-more (t .d) (t .c) w v _ h (omega arith) (t .inv .5) ∙ sym (picked-next _ _ _ _),

@@ -1,7 +1,7 @@
 use mathlib.Core.Path.{_≡_, refl, _∙_, ap}
 use Prim.Native.Nat.{ℕ, _-_, _+_, _≤_, _<_, zero-le}
 use native.Mathlib.Omega.{arith}
-use lib.ListN.{length, getD, length-set}
+use lib.ListN.{length, getD}
 use lib.Ieee.{nan}
 use borrow.Author.Needs.{needs}
 use Rattle.definitions.specs.Points as points

@@ -1,4 +1,4 @@
-use mathlib.Core.Path.{_≡_, sym, _∙_}
+use mathlib.Core.Path.{sym, _∙_}
 use Rattle.unstructured.specs.Pairs.{thePoint, pointIn}
 use Rattle.unstructured.proofs.Batches.{value-mean0, value-mean, value-found, values-fit}
 use borrow.Author.Needs.{needs}
@@ -59,7 +59,7 @@ returns-3 c = let s = c .before .before .before .before .before .before .before 
     let p = c .before .before .before .before .before .before .before .before .before .before .before .before .before .before .before .pair-values in
     let l = p .kept .1 .1 .1 .1 .1 .1 .1 .1 .1 .0 ∙ s .pre .1 .1 .1 .0 in
     value-found (x .setup .reducer) (x .value-edges .now) (x .found .now) _ _ (x .hints .now) (x .table) (x .room .now) (p .last .1 .1 .1 .1 .1 .1 .1 .1 .1 .0) _ _ (c .before .before .before .before .before .before .before .before .before .before .before .before .before .before .before .before .before .before .kind .given .1) (s .pre .0)
-        (values-fit (thePoint (x .a)) (pointIn (x .positions .now) (x .values .now) (x .weights .now) (x .stride)) (x .j) (x .setup .op) (x .places .now)) (s .pre .1 .1 .1 .1 ∙ sym l) (s .pre .1 .1 .1 .2 ∙ sym l) (p .ensures) (c .before .before .before .before .before .before .before .before .before .bins-of .ensures .1) (c .before .before .drop-outside .ensures)
+    (values-fit (thePoint (x .a)) (pointIn (x .positions .now) (x .values .now) (x .weights .now) (x .stride)) (x .j) (x .setup .op) (x .places .now)) (s .pre .1 .1 .1 .1 ∙ sym l) (s .pre .1 .1 .1 .2 ∙ sym l) (p .ensures) (c .before .before .before .before .before .before .before .before .before .bins-of .ensures .1) (c .before .before .drop-outside .ensures)
 
 pub value-bins-spec : {M : Type 1} → statement M
 value-bins-spec =
