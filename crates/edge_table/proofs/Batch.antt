@@ -27,7 +27,7 @@ use Rattle.reducer.specs.declared.BuiltEdges.{BuiltEdges}
 use Rattle.reducer.specs.declared.BuiltEdges.the-variants.{Regular, Irregular}
 use Rattle.reducer.specs.Consume.{builtBin}
 use Rattle.edge_table.specs.declared.Table.{Table}
-use Rattle.edge_table.specs.Table.{placeOf, bit, numberOr, between, holds, climb, climb32, halved, halvedBin, nearBin, hintedBin, quotient, insideBin, alike, foundOf, roomOf, kept, dropped, droppedOf}
+use Rattle.edge_table.specs.Table.{placeOf, bit, numberOr, between, holds, climb, climb32, halved, halvedBin, nearBin, hintFor, hintedBin, quotient, insideBin, alike, foundOf, roomOf, kept, dropped, droppedOf}
 use Rattle.edge_table.specs.Tabled.{Searchable, Tabled}
 use Rattle.edge_table.proofs.Lookup.{outside, and-true, enclosed-bin, tested, held-bin, halved-found, bin-low, bin-high}
 
@@ -108,21 +108,30 @@ module _ (list : List Float) (x : Float) (s : Bool) where
       unfolding nearBin
       near-search o r b e u = rw (← q, a, ← p, b, ← e) u
 
+-- p is the value's place
+module _ (list : List Float) (hints : List ℕ) (table : Table) (x : Float) (p : ℕ) (e : p ≡ placeOf table x) where
+  pub hint-is : p < length hints → getD hints p 0 ≡ hintFor list hints table x
+  unfolding hintFor
+  hint-is h = rw (← e, lt-ltb p (length hints) h)
+
+  pub hint-none : (r : ℕ) → length hints ≤ p → r ≡ halved list x → r ≡ hintFor list hints table x
+  unfolding hintFor
+  hint-none r h q = rw (← e, le-ltb p (length hints) h) q
+
 module _ (list : List Float) (hints : List ℕ) (table : Table) (x : Float) (h : ℕ) where
-  pub hinted-right : (s : Bool) → h ≡ getD hints (placeOf table x) 0 → s ≡ between list x h → s ≡ true → h ≡ numberOr (hintedBin list hints table x)
+  pub hinted-right : (s : Bool) → h ≡ hintFor list hints table x → s ≡ between list x h → s ≡ true → h ≡ numberOr (hintedBin list hints table x)
   unfolding hintedBin
   hinted-right s e q a = rw (← e, ← q, a)
 
-  pub hinted-near : (s : Bool) (r : ℕ) → h ≡ getD hints (placeOf table x) 0 → s ≡ between list x h → s ≡ false → r ≡ numberOr (nearBin list x h) → r ≡ numberOr (hintedBin list hints table x)
+  pub hinted-near : (s : Bool) (r : ℕ) → h ≡ hintFor list hints table x → s ≡ between list x h → s ≡ false → r ≡ numberOr (nearBin list x h) → r ≡ numberOr (hintedBin list hints table x)
   unfolding hintedBin
   hinted-near s r e q a u = rw (← e, ← q, a) u
 
 -- p is the place, n how many bins there are
-pub hinted-quick : (list : List Float) (hints : List ℕ) (table : Table) (x : Float) (p n : ℕ) → p ≡ placeOf table x → n ≡ length list - 1 → getD hints p 0 < n → lt (at list (getD hints p 0)) x ≡ true → lt x (at list (getD hints p 0 + 1)) ≡ true
+pub hinted-quick : (list : List Float) (hints : List ℕ) (table : Table) (x : Float) (p n : ℕ) → p ≡ placeOf table x → p < length hints → n ≡ length list - 1 → getD hints p 0 < n → lt (at list (getD hints p 0)) x ≡ true → lt x (at list (getD hints p 0 + 1)) ≡ true
     → getD hints p 0 ≡ numberOr (hintedBin list hints table x)
-hinted-quick list hints table x p n e f l a b =
-    let z = ap (λ (i : ℕ). getD hints i 0) e in
-    hinted-right list hints table x (getD hints p 0) true z (sym b ∙ between-is list x (getD hints p 0) n f l a) refl
+hinted-quick list hints table x p n e w f l a b =
+    hinted-right list hints table x (getD hints p 0) true (hint-is list hints table x p e w) (sym b ∙ between-is list x (getD hints p 0) n f l a) refl
 
 pub cut-within : (n i : ℕ) (x : Float) → i ≡ asUsize x → i < n → i ≡ numberOr (below n (some (asUsize x)))
 cut-within n i x e h = rw (← e, lt-ltb i n h)
@@ -292,7 +301,7 @@ module _ (es : List Float) (u : Searchable es) (x : Float) (f : fits binary64 x 
 
   hinted-found : (hints : List ℕ) (table : Table) → hintedBin es hints table x ≡ builtBin Irregular es x
   unfolding hintedBin
-  hinted-found hints table = let h = getD hints (placeOf table x) 0 in tested (between es x h) h _ _ (between-bin h) (near-found h)
+  hinted-found hints table = let h = hintFor es hints table x in tested (between es x h) h _ _ (between-bin h) (near-found h)
 
 module _ (es : List Float) (hints : List ℕ) (table : Table) where
   pub inside-bin : (edges : BuiltEdges) (x : Float) → Tabled edges es table → fits binary64 x ≡ true → lt x (table .first) ≡ false → le (table .last) x ≡ false

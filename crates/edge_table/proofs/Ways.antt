@@ -103,13 +103,6 @@ module _ (b : ℕ) (h : b ≤ 2 ^ 64 - 1) where
           let l : 2 ^ 63 ≤ b = ltb-false b (2 ^ 63) e in
           omega (arith, taken-minus l, key-minus x (omega arith))
 
-module _ (hints : List ℕ) (p q : ℕ) (e : q ≡ p) where
-  pub hint-is : getD hints q 0 ≡ getD hints p 0
-  hint-is = ap (λ (i : ℕ). getD hints i 0) e
-
-  pub hint-none : length hints ≤ q → 0 ≡ getD hints p 0
-  hint-none h = sym (List·getD-eq-default hints 0 h) ∙ hint-is
-
 pub bit-times : (w : ℕ) (t : Bool) → w * bit t ≤ w
 bit-times w true = omega arith
 bit-times w false = omega arith

@@ -2,7 +2,7 @@
 use mathlib.Core.Option.{Option, none, some}
 use mathlib.Core.List.{List, [], _∷_, map}
 use mathlib.Core.Bool.{Bool, true, false, cond, not, _&&_, _||_}
-use Prim.Native.Nat.{ℕ, zero, suc, _+_, _-_, _*_, _/_, _%_}
+use Prim.Native.Nat.{ℕ, zero, suc, _+_, _-_, _*_, _/_, _%_, _^_}
 use lib.Dec.{leb, ltb, eqb}
 use lib.ListN.{length, getD, set}
 use lib.IntN.{pos}
@@ -101,9 +101,9 @@ guessOf q = toBits binary64 (add binary64 (add binary64 q (ofBits binary64 0x40a
 unfoldable pub isSure : Float → ℕ → Bool
 isSure q h = le (ofInt binary64 (pos h)) q && lt q (add binary64 (ofInt binary64 (pos h)) (ofBits binary64 0x3ff0_0000_0000_0000))
 
--- the guess where it is right, else a mark
+-- the guess where it is right, else a mark past every number of bins
 unfoldable pub sureCut : Float → ℕ
-sureCut q = cond (isSure q (guessOf q)) (guessOf q) 4097
+sureCut q = cond (isSure q (guessOf q)) (guessOf q) (2 ^ 64 - 1)
 
 -- strictly between the edges of bin h
 unfoldable pub between : List Float → Float → ℕ → Bool
@@ -113,8 +113,12 @@ between list x h = ltb h (length list - 1) && lt (at list h) x && lt x (at list 
 unfoldable pub nearBin : List Float → Float → ℕ → Option ℕ
 nearBin list x h = cond (holds list x h) (some h) (cond (holds list x (h + 1)) (some (h + 1)) (halvedBin list x))
 
+-- the hint at the value's place; where there is none, what the search by halves finds
+unfoldable pub hintFor : List Float → List ℕ → Table → Float → ℕ
+hintFor list hints table x = cond (ltb (placeOf table x) (length hints)) (getD hints (placeOf table x) 0) (halved list x)
+
 unfoldable pub hintedBin : List Float → List ℕ → Table → Float → Option ℕ
-hintedBin list hints table x = cond (between list x (getD hints (placeOf table x) 0)) (some (getD hints (placeOf table x) 0)) (nearBin list x (getD hints (placeOf table x) 0))
+hintedBin list hints table x = cond (between list x (hintFor list hints table x)) (some (hintFor list hints table x)) (nearBin list x (hintFor list hints table x))
 
 unfoldable pub insideBin : BuiltEdges → List Float → List ℕ → Table → Float → Option ℕ
 insideBin (Regular e) list hints table x = below (e .«n_bins») (some (asUsize (quotient e x)))

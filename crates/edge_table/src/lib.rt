@@ -13,7 +13,7 @@ ghost use Rattle.definitions.specs.Floats.{asUsize};
 ghost use Rattle.definitions.specs.Bins.{below};
 ghost use Rattle.floats.specs.Order.{orderKey};
 ghost use Rattle.bins.specs.Answers.{indexOf};
-ghost use Rattle.edge_table.specs.Table.{tableOf, placeOf, endOf, spread, binHinted, hintsOf, outsideOf, edgeBin, tableBin, noTable, valueTableOf, numberOr, quotient, guessOf, isSure, sureCut, between, holds, climb, climb32, halved, halvedBin, nearBin, hintedBin, foundOf, roomOf, kept, dropped, droppedOf};
+ghost use Rattle.edge_table.specs.Table.{tableOf, placeOf, endOf, spread, binHinted, hintsOf, outsideOf, edgeBin, tableBin, noTable, valueTableOf, numberOr, quotient, guessOf, isSure, sureCut, between, holds, climb, climb32, halved, halvedBin, nearBin, hintFor, hintedBin, foundOf, roomOf, kept, dropped, droppedOf};
 
 // Ends of the edges, and places of hints a unit of the value.
 pub struct Table {
@@ -116,17 +116,6 @@ pub fn fill_hints(list: &[f64], table: Table, hints: &mut [u8])
 
 // ---- lookups
 
-// The hint at the value's place; 0 where there is none.
-fn hint_at(hints: &[u8], table: Table, value: f64) -> usize
-    ensures { λ r. ⌜ (r ≡ getD (now (hints .entry)) (placeOf table value) 0) × (r ≤ 255) ⌝ }
-{
-    let q = place_of(table, value);
-    if q < hints.len() {
-        return hints[q] as usize;
-    }
-    0
-}
-
 fn is_held(list: &[f64], x: f64, h: usize) -> bool
     ensures { λ r. ⌜ r ≡ holds (now (list .entry)) x h ⌝ }
 {
@@ -155,7 +144,7 @@ fn climb_by(list: &[f64], x: f64, w: usize, b: usize) -> usize
 
 fn climb_32(list: &[f64], x: f64, b: usize) -> usize
     requires { ⌜ b + 31 ≤ 255 ⌝ }
-    ensures { λ r. ⌜ r ≡ climb32 (now (list .entry)) x b ⌝ }
+    ensures { λ r. ⌜ (r ≡ climb32 (now (list .entry)) x b) × (r ≤ b + 31) ⌝ }
 {
     let c = climb_by(list, x, 16, b);
     let d = climb_by(list, x, 8, c);
@@ -166,7 +155,7 @@ fn climb_32(list: &[f64], x: f64, b: usize) -> usize
 
 // The search by halves.
 fn halve(list: &[f64], x: f64) -> usize
-    ensures { λ r. ⌜ r ≡ halved (now (list .entry)) x ⌝ }
+    ensures { λ r. ⌜ (r ≡ halved (now (list .entry)) x) × (r ≤ 255) ⌝ }
 {
     if list.len() <= 33 {
         return climb_32(list, x, 0);
@@ -257,10 +246,21 @@ fn near_bin(list: &[f64], x: f64, h: usize) -> usize
     number_of(halved_bin(list, x))
 }
 
+// The hint at the value's place; few values are not worth a table, and are searched.
+fn hint_for(list: &[f64], hints: &[u8], table: Table, value: f64) -> usize
+    ensures { λ r. ⌜ (r ≡ hintFor (now (list .entry)) (now (hints .entry)) table value) × (r ≤ 255) ⌝ }
+{
+    let q = place_of(table, value);
+    if q < hints.len() {
+        return hints[q] as usize;
+    }
+    halve(list, value)
+}
+
 fn hinted_bin(list: &[f64], hints: &[u8], table: Table, x: f64) -> usize
     ensures { λ r. ⌜ r ≡ numberOr (hintedBin (now (list .entry)) (now (hints .entry)) table x) ⌝ }
 {
-    let h = hint_at(hints, table, x);
+    let h = hint_for(list, hints, table, x);
     if is_between(list, x, h) {
         return h;
     }
@@ -300,20 +300,6 @@ fn hinted_bins(list: &[f64], hints: &[u8], table: Table, x: &[f64], found: &mut 
     }
 }
 
-// A loop of its own: the divisions go several at a time.
-fn quotients(edges: RegularBinEdges, x: &[f64], room: &mut [f64])
-    requires { ⌜ length (now room) ≡ length (now x) ⌝ }
-    ensures { λ _. ⌜ now (room .exit) ≡ map (quotient edges) (now (x .entry)) ⌝ }
-{
-    let min = edges.min;
-    let size = edges.bin_size;
-    let mut q = 0;
-    while q < x.len() {
-        room[q] = (x[q] - min) / size;
-        q += 1;
-    }
-}
-
 fn cut_to_bin(n_bins: usize, x: f64) -> usize
     ensures { λ r. ⌜ r ≡ numberOr (below «n_bins» (some (asUsize x))) ⌝ }
 {
@@ -339,35 +325,40 @@ fn is_sure(q: f64, h: usize) -> bool
     if f <= q { q < next } else { false }
 }
 
-// 4097 where the guess is not right.
+// The largest usize where the guess is not right.
 fn sure_cut(q: f64) -> usize
     ensures { λ r. ⌜ r ≡ sureCut q ⌝ }
 {
     let h = guess_of(q);
-    if is_sure(q, h) { h } else { 4097 }
+    if is_sure(q, h) { h } else { usize::MAX }
 }
 
 // A loop of its own, with nothing but arithmetic, goes several values at a time.
-fn sure_cuts(x: &[f64], found: &mut [usize])
-    requires { ⌜ length (now found) ≡ length (now x) ⌝ }
-    ensures { λ _. ⌜ now (found .exit) ≡ map sureCut (now (x .entry)) ⌝ }
+fn sure_cuts(edges: RegularBinEdges, x: &[f64], room: &mut [f64], found: &mut [usize])
+    requires { ⌜ length (now room) ≡ length (now x) ⌝ ∗ ⌜ length (now found) ≡ length (now x) ⌝ }
+    ensures { λ _. ⌜ now (room .exit) ≡ map (quotient edges) (now (x .entry)) ⌝ }
+    ensures { λ _. ⌜ now (found .exit) ≡ map (λ v. sureCut (quotient edges v)) (now (x .entry)) ⌝ }
 {
+    let min = edges.min;
+    let size = edges.bin_size;
     let mut q = 0;
     while q < x.len() {
-        found[q] = sure_cut(x[q]);
+        let v = (x[q] - min) / size;
+        room[q] = v;
+        found[q] = sure_cut(v);
         q += 1;
     }
 }
 
-// 4097 is looked at first: it may be below n_bins.
+// Of a number that is no bin.
 fn settle(n_bins: usize, x: f64, b: usize) -> usize
-    requires { ⌜ b ≡ sureCut x ⌝ }
+    requires { ⌜ b ≡ sureCut x ⌝ ∗ ⌜ «n_bins» ≤ b ⌝ }
     ensures { λ r. ⌜ r ≡ numberOr (below «n_bins» (some (asUsize x))) ⌝ }
 {
-    if b == 4097 {
+    if b == usize::MAX {
         return cut_to_bin(n_bins, x);
     }
-    if b < n_bins { b } else { 4096 }
+    4096
 }
 
 fn settle_all(n_bins: usize, x: &[f64], found: &mut [usize])
@@ -376,17 +367,11 @@ fn settle_all(n_bins: usize, x: &[f64], found: &mut [usize])
 {
     let mut q = 0;
     while q < x.len() {
-        found[q] = settle(n_bins, x[q], found[q]);
+        if found[q] >= n_bins {
+            found[q] = settle(n_bins, x[q], found[q]);
+        }
         q += 1;
     }
-}
-
-fn cut_to_bins(n_bins: usize, x: &[f64], found: &mut [usize])
-    requires { ⌜ length (now found) ≡ length (now x) ⌝ }
-    ensures { λ _. ⌜ now (found .exit) ≡ map (λ v. numberOr (below «n_bins» (some (asUsize v)))) (now (x .entry)) ⌝ }
-{
-    sure_cuts(x, &mut *found);
-    settle_all(n_bins, x, found);
 }
 
 // The bin of each value that is not outside the ends; 4096 where there is none. Nothing is done where the lengths differ.
@@ -410,8 +395,8 @@ pub fn bins_of(
     }
     match edges {
         BuiltEdges::Regular(e) => {
-            quotients(e, x, &mut *room);
-            cut_to_bins(e.n_bins, &*room, found);
+            sure_cuts(e, x, &mut *room, &mut *found);
+            settle_all(e.n_bins, &*room, found);
         }
         BuiltEdges::Irregular => hinted_bins(list, hints, table, x, found),
     }

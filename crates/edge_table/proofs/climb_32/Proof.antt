@@ -28,7 +28,7 @@ climb-by-requires-5 c κs = search needs
 
 -- src/lib.rt:333:1
 returns : tie.Need-returns
-returns c = search climb-32
+returns c = (search climb-32, search needs)
 
 pub climb-32-spec : {M : Type 1} → statement M
 climb-32-spec =

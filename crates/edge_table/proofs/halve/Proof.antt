@@ -13,7 +13,7 @@ climb-32-requires c κs = search needs
 
 -- src/lib.rt:349:9
 returns : tie.Need-returns
-returns c = search halved-few
+returns c = (search halved-few, search needs)
 
 -- src/lib.rt:351:9
 climb-by-requires : tie.Need-climb-by-requires
@@ -33,7 +33,7 @@ climb-32-requires-2 c κs = search needs
 
 -- src/lib.rt:345:1
 returns-2 : tie.Need-returns-2
-returns-2 c = search halved-many
+returns-2 c = (search halved-many, search needs)
 
 pub halve-spec : {M : Type 1} → statement M
 halve-spec =

@@ -4,13 +4,13 @@ use Rattle.edge_table.proofs.hinted_bin.Statement.{statement}
 use Rattle.edge_table.proofs.hinted_bin.Tie as tie
 use Rattle.edge_table.proofs.hinted_bin.Reads as reads
 use Rattle.edge_table.proofs.hinted_bin.Lts as lts
-use Rattle.edge_table.proofs.hint_at.Reads as hint-at-reads
+use Rattle.edge_table.proofs.hint_for.Reads as hint-for-reads
 use Rattle.edge_table.proofs.is_between.Reads as is-between-reads
 use Rattle.edge_table.proofs.near_bin.Reads as near-bin-reads
 
 -- src/lib.rt:388:9
-hint-at-requires : tie.Need-hint-at-requires
-hint-at-requires c κs = search needs
+hint-for-requires : tie.Need-hint-for-requires
+hint-for-requires c κs = search needs
 
 -- src/lib.rt:389:8
 is-between-requires : tie.Need-is-between-requires
@@ -30,4 +30,4 @@ returns-2 c = search hinted-near
 
 pub hinted-bin-spec : {M : Type 1} → statement M
 hinted-bin-spec =
-    tie.close (tie.spec hint-at-requires is-between-requires returns near-bin-requires returns-2)
+    tie.close (tie.spec hint-for-requires is-between-requires returns near-bin-requires returns-2)

@@ -55,7 +55,7 @@ shared-slice-read-if5 c = search needs
 -- src/lib.rt:408:25
 returns : tie.Need-returns
 unfolding placeOf
-returns c = hinted-quick _ _ _ _ _ _ refl (c .before .before .before .before .before .before .before .before .before .before .before .n-bins .ensures) (c .before .before .before .before .if3 .taken) (c .before .before .if4 .taken) (c .if5 .taken)
+returns c = hinted-quick _ _ _ _ _ _ refl (c .before .before .before .before .before .before .if2 .taken) (c .before .before .before .before .before .before .before .before .before .before .before .n-bins .ensures) (c .before .before .before .before .if3 .taken) (c .before .before .if4 .taken) (c .if5 .taken)
 
 -- src/lib.rt:414:5
 hinted-bin-requires : tie.Need-hinted-bin-requires

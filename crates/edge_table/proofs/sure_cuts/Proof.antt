@@ -1,10 +1,12 @@
-use mathlib.Core.Path.{_≡_, refl}
 use borrow.Author.Needs.{needs}
-use lib.ListN.{length, take, drop}
-use native.Mathlib.Omega.{arith}
-use Prim.Native.Nat.{_-_, _≤_, zero-le}
+use mathlib.Core.Path.{_≡_, refl}
 use mathlib.Core.List.{_++_, map}
-use Rattle.edge_table.specs.Table.{sureCut}
+use Prim.Native.Nat.{_-_, _≤_, zero-le}
+use native.Mathlib.Omega.{arith}
+use lib.ListN.{length, take, drop}
+use lib.Ieee.{binary64, sub, div}
+use Rattle.edge_table.specs.Table.{quotient, sureCut}
+use Rattle.definitions.specs.Lists.{at}
 use Rattle.edge_table.proofs.Batch.{map-next, map-done}
 use Rattle.edge_table.proofs.sure_cuts.Statement.{statement}
 use Rattle.edge_table.proofs.sure_cuts.Tie as tie
@@ -13,54 +15,70 @@ use Rattle.edge_table.proofs.sure_cuts.Lts as lts
 use Rattle.edge_table.proofs.sure_cut.Reads as sure-cut-reads
 
 abbrev Inv-loop : tie.InvT-loop
-Inv-loop x found₀ q₀ found q = (q ≤ length x) × (length found ≡ length x) × (map sureCut x ≡ take q found ++ map sureCut (drop q x))
+Inv-loop x room₀ found₀ min size q₀ room found q = (q ≤ length x) × (length room ≡ length x) × (length found ≡ length x) × (map (λ v. div binary64 (sub binary64 v min) size) x ≡ take q room ++ map (λ v. div binary64 (sub binary64 v min) size) (drop q x)) × (map (λ v. sureCut (div binary64 (sub binary64 v min) size)) x ≡ take q found ++ map (λ v. sureCut (div binary64 (sub binary64 v min) size)) (drop q x))
 
 abbrev μ-loop : tie.MeasureT-loop
-μ-loop x found₀ q₀ found q = length x - q
+μ-loop x room₀ found₀ min size q₀ room found q = length x - q
 
--- src/lib.rt:356:5
+-- src/lib.rt:345:5
 loop-holds : tie.Need-loop-holds Inv-loop μ-loop
-loop-holds c = (zero-le, search needs, refl)
+loop-holds c = (zero-le, search needs, search needs, refl, refl)
 
--- src/lib.rt:357:29
-mul-sure-cut : tie.Need-mul-sure-cut Inv-loop μ-loop
-mul-sure-cut c = search needs
+-- src/lib.rt:346:18
+mul-v : tie.Need-mul-v Inv-loop μ-loop
+mul-v c = search needs
 
--- src/lib.rt:357:29
-shared-slice-read-sure-cut : tie.Need-shared-slice-read-sure-cut Inv-loop μ-loop
-shared-slice-read-sure-cut c = search needs
+-- src/lib.rt:346:18
+shared-slice-read-v : tie.Need-shared-slice-read-v Inv-loop μ-loop
+shared-slice-read-v c = search needs
 
--- src/lib.rt:357:20
+-- src/lib.rt:347:9
+mul-room : tie.Need-mul-room Inv-loop μ-loop
+mul-room c = search needs
+
+-- src/lib.rt:347:9
+slice-write-room : tie.Need-slice-write-room Inv-loop μ-loop
+slice-write-room c = search needs
+
+-- src/lib.rt:348:20
 sure-cut-requires : tie.Need-sure-cut-requires Inv-loop μ-loop
 sure-cut-requires c κs = search needs
 
--- src/lib.rt:357:9
+-- src/lib.rt:348:9
 mul-found : tie.Need-mul-found Inv-loop μ-loop
 mul-found c = search needs
 
--- src/lib.rt:357:9
+-- src/lib.rt:348:9
 slice-write-found : tie.Need-slice-write-found Inv-loop μ-loop
 slice-write-found c = search needs
 
--- src/lib.rt:358:9
+-- src/lib.rt:349:9
 add-q : tie.Need-add-q Inv-loop μ-loop
 add-q c = search needs
 
--- src/lib.rt:356:5
+-- src/lib.rt:345:5
 loop-less : tie.Need-loop-less Inv-loop μ-loop
 loop-less c = search needs
 
--- src/lib.rt:356:5
+-- src/lib.rt:345:5
 loop-again : tie.Need-loop-again Inv-loop μ-loop
-loop-again c = (omega arith, search needs, search map-next)
+loop-again c =
+    let t = c .before .before .before .loop in
+    let s = c .before .before .before .before .before .before .before .args in
+    let k = quotient (s .edges) (at (s .x .now) (t .q)) in
+    (omega arith, search needs, search needs, map-next (quotient (s .edges)) (s .x .now) (t .room) (t .q) (t .inv .1) (t .inv .3) k (omega arith) refl, search map-next)
 
--- src/lib.rt:351:1
+-- src/lib.rt:337:1
 same-length : tie.Need-same-length Inv-loop μ-loop
 same-length c = search needs
 
--- src/lib.rt:351:1
+-- src/lib.rt:337:1
+same-length-2 : tie.Need-same-length-2 Inv-loop μ-loop
+same-length-2 c = search needs
+
+-- src/lib.rt:337:1
 returns : tie.Need-returns Inv-loop μ-loop
-returns c = search map-done
+returns c = (search map-done, search map-done)
 
 pub sure-cuts-spec : {M : Type 1} → statement M
 sure-cuts-spec =
@@ -69,8 +87,10 @@ sure-cuts-spec =
     Inv-loop
     μ-loop
     loop-holds
-    mul-sure-cut
-    shared-slice-read-sure-cut
+    mul-v
+    shared-slice-read-v
+    mul-room
+    slice-write-room
     sure-cut-requires
     mul-found
     slice-write-found
@@ -78,4 +98,5 @@ sure-cuts-spec =
     loop-less
     loop-again
     same-length
+    same-length-2
     returns)
