@@ -1,49 +1,53 @@
 -- Lookups of many values: each way through the code, the loops over a batch, and the edges' own bins.
 use mathlib.Core.Path.{_≡_, refl, sym, ap, _∙_, subst}
 use mathlib.Core.Logic.{⊎-elim}
-use mathlib.Core.Option.{Option, some}
+use mathlib.Core.Option.{Option, none, some}
 use mathlib.Core.Bool.{Bool, true, false, cond, _&&_, _||_, true≢false}
 use mathlib.Core.List.{List, [], _∷_, _++_, map, map-map, append-nil}
 use Prim.Native.Nat.{ℕ, zero, suc, _+_, _-_, _*_, _<_, _≤_}
 use native.Mathlib.Numerals.{add-one}
 use native.Mathlib.Nat.{le-refl, le-of-lt, eq-or-lt-of-le}
 use native.Mathlib.Omega.{arith}
-use lib.Dec.{ltb, T}
+use lib.Dec.{ltb, eqb, T}
 use lib.ListN.{length, getD, set, take, drop, drop-of-length-le, length-map}
 use lib.Seq.{drop-cons, append-snoc, take-suc-set, take-all, drop-set-lt}
-use lib.Ieee.{Float, lt, le, isNan, nan, inf, fin, up, down, binary64, fits}
+use lib.Ieee.{Float, lt, le, eq, below, level, isNan, nan, inf, fin, up, down, binary64, fits}
 use lib.Ieee.Scale.{finite}
 use lib.Ieee.Fits.{and-l, and-r}
 use lib.Ieee.Bits.{is-true}
-use borrow.Author.Tests.{lt-ltb, le-ltb, le-leb, lt-leb, eq-eqb, ne-eqb, ltb-true}
+use borrow.Author.Tests.{lt-ltb, le-ltb, le-leb, lt-leb, eq-eqb, ne-eqb, ltb-true, eqb-true}
 use Rattle.definitions.specs.Lists.{at}
-use Rattle.definitions.specs.Floats.{asUsize}
-use Rattle.definitions.specs.Bins.{below, regularIndex}
 use Rattle.definitions.specs.Rules.{allFinite}
 use Rattle.floats.specs.Order.{orderKey}
-use Rattle.floats.proofs.Keys.{key-mono, key-injective}
+use Rattle.floats.proofs.Keys.{key-mono, key-injective, sorted}
 use Rattle.bins.specs.declared.RegularBinEdges.{RegularBinEdges}
 use Rattle.reducer.specs.declared.BuiltEdges.{BuiltEdges}
 use Rattle.reducer.specs.declared.BuiltEdges.the-variants.{Regular, Irregular}
 use Rattle.reducer.specs.Consume.{builtBin}
 use Rattle.edge_table.specs.declared.Table.{Table}
-use Rattle.edge_table.specs.Table.{placeOf, bit, numberOr, between, holds, climb, climb32, halved, halvedBin, nearBin, hintFor, hintedBin, quotient, insideBin, alike, foundOf, roomOf, kept, dropped, droppedOf}
+use Rattle.edge_table.specs.Table.{placeOf, bit, numberOr, between, nudged, outsideOf, holds, climb, climb32, halved, halvedBin, nearBin, hintFor, guessedBin, hintedBin, batchBin, foundOf}
 use Rattle.edge_table.specs.Tabled.{Searchable, Tabled}
-use Rattle.edge_table.proofs.Lookup.{outside, and-true, enclosed-bin, tested, held-bin, halved-found, bin-low, bin-high}
+use Rattle.edge_table.proofs.Lookup.{outside, none-outside, and-true, enclosed-bin, tested, held-bin, halved-found}
 
 -- ---- the tests of a bin
-module _ (list : List Float) (x : Float) (h n : ℕ) (e : n ≡ length list - 1) where
-  pub between-past : n ≤ h → false ≡ between list x h
+module _ (list : List Float) (table : Table) (x : Float) (h n : ℕ) (e : n ≡ length list - 1) where
+  pub between-past : n ≤ h → false ≡ between list table x h
   unfolding between
   between-past l = rw (← e, le-ltb h n l)
 
-  pub between-not : h < n → lt (at list h) x ≡ false → false ≡ between list x h
-  unfolding between
-  between-not l t = rw (← e, lt-ltb h n l, t)
+  module _ (l : h < n) where
+    pub between-low : lt (at list h) x ≡ false → false ≡ between list table x h
+    unfolding between
+    between-low t = rw (← e, lt-ltb h n l, t)
 
-  pub between-is : h < n → lt (at list h) x ≡ true → lt x (at list (h + 1)) ≡ between list x h
-  unfolding between
-  between-is l t = rw (← e, lt-ltb h n l, t)
+    module _ (t : lt (at list h) x ≡ true) where
+      pub between-high : lt x (at list (h + 1)) ≡ false → false ≡ between list table x h
+      unfolding between
+      between-high u = rw (← e, lt-ltb h n l, t, u)
+
+      pub between-is : lt x (at list (h + 1)) ≡ true → lt x (table .last) ≡ between list table x h
+      unfolding between
+      between-is u = rw (← e, lt-ltb h n l, t, u)
 
 -- r is the answer of `is_nan`, k, a and b are the keys
 module _ (list : List Float) (x : Float) (h : ℕ) (r : Bool) (q : r ≡ isNan x) where
@@ -118,26 +122,31 @@ module _ (list : List Float) (hints : List ℕ) (table : Table) (x : Float) (p :
   unfolding hintFor
   hint-none r h q = rw (← e, le-ltb p (length hints) h) q
 
-module _ (list : List Float) (hints : List ℕ) (table : Table) (x : Float) (h : ℕ) where
-  pub hinted-right : (s : Bool) → h ≡ hintFor list hints table x → s ≡ between list x h → s ≡ true → h ≡ numberOr (hintedBin list hints table x)
-  unfolding hintedBin
-  hinted-right s e q a = rw (← e, ← q, a)
+pub nudge-is : (list : List Float) (x edge : Float) (g : ℕ) → edge ≡ at list (g + 1) → g + bit (lt edge x) ≡ nudged list x g
+unfolding nudged
+nudge-is list x edge g e = rw e
 
-  pub hinted-near : (s : Bool) (r : ℕ) → h ≡ hintFor list hints table x → s ≡ between list x h → s ≡ false → r ≡ numberOr (nearBin list x h) → r ≡ numberOr (hintedBin list hints table x)
-  unfolding hintedBin
-  hinted-near s r e q a u = rw (← e, ← q, a) u
+-- g is the hint, h the answer of `nudge`, s of `is_between`
+module _ (list : List Float) (hints : List ℕ) (table : Table) (x : Float) (g h : ℕ) (s : Bool) (e : g ≡ hintFor list hints table x) (d : h ≡ nudged list x g) (q : s ≡ between list table x h) where
+  pub hinted-right : s ≡ true → h ≡ numberOr (hintedBin list hints table x)
+  unfolding hintedBin guessedBin
+  hinted-right a = rw (← e, ← d, ← q, a)
+
+  -- r is the answer of `is_outside`
+  module _ (a : s ≡ false) (r : Bool) (o : r ≡ outsideOf table x) where
+    pub hinted-none : r ≡ true → 4096 ≡ numberOr (hintedBin list hints table x)
+    unfolding hintedBin guessedBin
+    hinted-none t = rw (← e, ← d, ← q, a, ← o, t)
+
+    pub hinted-near : (b : ℕ) → r ≡ false → b ≡ numberOr (nearBin list x g) → b ≡ numberOr (hintedBin list hints table x)
+    unfolding hintedBin guessedBin
+    hinted-near b t u = rw (← e, ← d, ← q, a, ← o, t) u
 
 -- p is the place, n how many bins there are
-pub hinted-quick : (list : List Float) (hints : List ℕ) (table : Table) (x : Float) (p n : ℕ) → p ≡ placeOf table x → p < length hints → n ≡ length list - 1 → getD hints p 0 < n → lt (at list (getD hints p 0)) x ≡ true → lt x (at list (getD hints p 0 + 1)) ≡ true
-    → getD hints p 0 ≡ numberOr (hintedBin list hints table x)
-hinted-quick list hints table x p n e w f l a b =
-    hinted-right list hints table x (getD hints p 0) true (hint-is list hints table x p e w) (sym b ∙ between-is list x (getD hints p 0) n f l a) refl
-
-pub cut-within : (n i : ℕ) (x : Float) → i ≡ asUsize x → i < n → i ≡ numberOr (below n (some (asUsize x)))
-cut-within n i x e h = rw (← e, lt-ltb i n h)
-
-pub cut-past : (n i : ℕ) (x : Float) → i ≡ asUsize x → n ≤ i → 4096 ≡ numberOr (below n (some (asUsize x)))
-cut-past n i x e h = rw (← e, le-ltb i n h)
+pub hinted-quick : (list : List Float) (hints : List ℕ) (table : Table) (x : Float) (p n h : ℕ) → p ≡ placeOf table x → p < length hints → n ≡ length list - 1 → h ≡ nudged list x (getD hints p 0) → h < n → lt (at list h) x ≡ true
+    → lt x (at list (h + 1)) ≡ true → lt x (table .last) ≡ true → h ≡ numberOr (hintedBin list hints table x)
+hinted-quick list hints table x p n h e w f d l a b c =
+    hinted-right list hints table x (getD hints p 0) h true (hint-is list hints table x p e w) d (sym c ∙ between-is list table x h n f l a b) refl
 
 -- ---- the loops: f of the first q values is stored
 module _ {B : Type 0} (f : Float → B) (x : List Float) (l : List B) (q : ℕ) (e : length l ≡ length x) (inv : map f x ≡ take q l ++ map f (drop q x)) where
@@ -150,99 +159,24 @@ module _ {B : Type 0} (f : Float → B) (x : List Float) (l : List B) (q : ℕ) 
   pub map-done : length x ≤ q → l ≡ map f x
   map-done h = sym (inv ∙ (λ i. take-all q l (omega arith) i ++ map f (drop-of-length-le x h i)) ∙ append-nil l)
 
--- ---- values outside the ends
-module _ (table : Table) where
-  module _ (x : Float) (b : ℕ) where
-    pub kept-low : lt x (table .first) ≡ true → 4096 ≡ kept table x b
-    unfolding kept
-    kept-low h = rw h
-
-    pub kept-high : lt x (table .first) ≡ false → le (table .last) x ≡ true → 4096 ≡ kept table x b
-    unfolding kept
-    kept-high h k = rw (h, k)
-
-    pub kept-inside : lt x (table .first) ≡ false → le (table .last) x ≡ false → b ≡ kept table x b
-    unfolding kept
-    kept-inside h k = rw (h, k)
-
-  module _ (x : List Float) (l₀ l : List ℕ) (q : ℕ) (e : length l ≡ length x) (inv : dropped table x l₀ ≡ take q l ++ dropped table (drop q x) (drop q l)) where
-    pub dropped-next : (v : ℕ) → q < length x → v ≡ kept table (at x q) (getD l q 0) → dropped table x l₀ ≡ take (q + 1) (set l q v) ++ dropped table (drop (q + 1) x) (drop (q + 1) (set l q v))
-    unfolding dropped
-    dropped-next v h w =
-        inv ∙ (λ i. take q l ++ dropped table (drop-cons x q nan h i) (drop-cons l q 0 (omega arith) i)) ∙ ap (λ (b : ℕ). take q l ++ b ∷ dropped table (drop (suc q) x) (drop (suc q) l)) (sym w)
-        ∙ sym (append-snoc (take q l) v (dropped table (drop (suc q) x) (drop (suc q) l)))
-        ∙ (λ i. sym (take-suc-set l q v (omega arith)) i ++ dropped table (drop (suc q) x) (sym (drop-set-lt (suc q) l q v (omega arith)) i))
-        ∙ ap (λ (n : ℕ). take n (set l q v) ++ dropped table (drop n x) (drop n (set l q v))) (sym (add-one q))
-
-    pub dropped-done : length x ≤ q → l ≡ dropped table x l₀
-    unfolding dropped
-    dropped-done h = sym (inv ∙ (λ j. take-all q l (omega arith) j ++ dropped table (drop-of-length-le x h j) (drop-of-length-le l {i = q} (omega arith) j)) ∙ append-nil l)
-
-pub dropped-none : (table : Table) (x : List Float) (l : List ℕ) → dropped table x l ≡ take 0 l ++ dropped table (drop 0 x) (drop 0 l)
-dropped-none table x l = refl
-
-module _ (table : Table) (x : List Float) (l : List ℕ) where
-  pub drop-unlike : (length l ≡ length x → ⊥) → l ≡ droppedOf table x l
-  unfolding droppedOf
-  drop-unlike h = rw (ne-eqb (length l) (length x) h)
-
-  pub drop-alike : (r : List ℕ) → length l ≡ length x → r ≡ dropped table x l → r ≡ droppedOf table x l
-  unfolding droppedOf
-  drop-alike r h e = rw (eq-eqb (length l) (length x) h) e
-
 -- ---- a batch
-module _ (x room : List Float) (found : List ℕ) where
-  unlike-room : (length room ≡ length x → ⊥) → alike x room found ≡ false
-  unfolding alike
-  unlike-room h = rw (ne-eqb (length room) (length x) h)
+module _ (edges : BuiltEdges) (list : List Float) (hints : List ℕ) (table : Table) (x : List Float) (found : List ℕ) where
+  pub found-unlike : (length found ≡ length x → ⊥) → found ≡ foundOf edges list hints table x found
+  unfolding foundOf
+  found-unlike h = rw (ne-eqb (length found) (length x) h)
 
-  unlike-found : length room ≡ length x → (length found ≡ length x → ⊥) → alike x room found ≡ false
-  unfolding alike
-  unlike-found e h = rw (eq-eqb (length room) (length x) e, ne-eqb (length found) (length x) h)
-
-  are-alike : length room ≡ length x → length found ≡ length x → alike x room found ≡ true
-  unfolding alike
-  are-alike e h = rw (eq-eqb (length room) (length x) e, eq-eqb (length found) (length x) h)
-
-  room-left : (edges : BuiltEdges) → alike x room found ≡ false → room ≡ roomOf edges x found room
-  unfolding roomOf
-  room-left (Regular e) h = rw h
-  room-left Irregular h = refl
-
-  pub room-irregular : (edges : BuiltEdges) → edges ≡ Irregular → room ≡ roomOf edges x found room
-  unfolding roomOf
-  room-irregular edges t = rw t
-
-  pub room-regular : (edges : BuiltEdges) (e : RegularBinEdges) (r : List Float) → edges ≡ Regular e → length room ≡ length x → length found ≡ length x → r ≡ map (quotient e) x → r ≡ roomOf edges x found room
-  unfolding roomOf
-  room-regular edges e r t h k p = rw (t, are-alike h k) p
-
-  module _ (edges : BuiltEdges) (list : List Float) (hints : List ℕ) (table : Table) where
-    found-left : alike x room found ≡ false → found ≡ foundOf edges list hints table x room found
+  module _ (h : length found ≡ length x) where
+    found-map : foundOf edges list hints table x found ≡ map (λ v. numberOr (batchBin edges list hints table v)) x
     unfolding foundOf
-    found-left h = rw h
+    found-map = rw (eq-eqb (length found) (length x) h)
 
-    pub bins-room : (length room ≡ length x → ⊥) → (room ≡ roomOf edges x found room) × (found ≡ foundOf edges list hints table x room found)
-    bins-room h = (room-left edges (unlike-room h), found-left (unlike-room h))
+    pub found-irregular : (l : List ℕ) → edges ≡ Irregular → l ≡ map (λ v. numberOr (hintedBin list hints table v)) x → l ≡ foundOf edges list hints table x found
+    unfolding batchBin
+    found-irregular l t p = p ∙ (λ i. map (λ v. numberOr (batchBin (sym t i) list hints table v)) x) ∙ sym found-map
 
-    pub bins-found : length room ≡ length x → (length found ≡ length x → ⊥) → (room ≡ roomOf edges x found room) × (found ≡ foundOf edges list hints table x room found)
-    bins-found e h = (room-left edges (unlike-found e h), found-left (unlike-found e h))
-
-    pub found-map : length room ≡ length x → length found ≡ length x → foundOf edges list hints table x room found ≡ map (λ v. numberOr (insideBin edges list hints table v)) x
-    unfolding foundOf
-    found-map e h = rw (are-alike e h)
-
-    pub found-irregular : (l : List ℕ) → edges ≡ Irregular → length room ≡ length x → length found ≡ length x → l ≡ map (λ v. numberOr (hintedBin list hints table v)) x → l ≡ foundOf edges list hints table x room found
-    unfolding insideBin
-    found-irregular l t e h p = p ∙ (λ i. map (λ v. numberOr (insideBin (sym t i) list hints table v)) x) ∙ sym (found-map e h)
-
-    -- r are the quotients
-    pub found-regular : (e : RegularBinEdges) (r : List Float) (l : List ℕ) → edges ≡ Regular e → length room ≡ length x → length found ≡ length x → r ≡ map (quotient e) x
-        → l ≡ map (λ v. numberOr (below (e .«n_bins») (some (asUsize v)))) r → l ≡ foundOf edges list hints table x room found
-    unfolding insideBin
-    found-regular e r l t h k p q =
-        q ∙ ap (map (λ v. numberOr (below (e .«n_bins») (some (asUsize v))))) p ∙ map-map (λ v. numberOr (below (e .«n_bins») (some (asUsize v)))) (quotient e) x
-        ∙ (λ i. map (λ v. numberOr (insideBin (sym t i) list hints table v)) x) ∙ sym (found-map h k)
+    pub found-regular : (e : RegularBinEdges) (l : List ℕ) → edges ≡ Regular e → l ≡ map (λ v. numberOr (builtBin (Regular e) list v)) x → l ≡ foundOf edges list hints table x found
+    unfolding batchBin
+    found-regular e l t p = p ∙ (λ i. map (λ v. numberOr (batchBin (sym t i) list hints table v)) x) ∙ sym found-map
 
 -- ---- the edges' own bins
 lt-self : (x : Float) → lt x x ≡ false
@@ -281,54 +215,88 @@ key-less x y f g a b h =
     ⊎-elim (λ (e : orderKey x ≡ orderKey y). absurd (true≢false (sym h ∙ ap (lt x) (sym (key-injective x y f g e)) ∙ lt-self x))) (λ (l : orderKey x < orderKey y). l)
     (eq-or-lt-of-le (key-mono x y f g a b (subst T (sym h) tt)))
 
-module _ (es : List Float) (u : Searchable es) (x : Float) (f : fits binary64 x ≡ true) (inside : isNan x ≡ false → outside es x ≡ false) where
-  between-bin : (g : ℕ) → between es x g ≡ true → some g ≡ builtBin Irregular es x
+-- ±a < ±b, so not ±b ≤ ±a
+below-level : (s t : Bool) (a b : ℕ) → below s a t b ≡ true → (below t b s a || level t b s a) ≡ false
+below-level false false a b h = rw (le-ltb b a (le-of-lt (ltb-true a b h)), ne-eqb b a (λ e. omega (arith, e, ltb-true a b h)))
+below-level false true a b h = absurd (true≢false (sym h))
+below-level true true a b h = rw (le-ltb a b (le-of-lt (ltb-true b a h)), ne-eqb b a (λ e. omega (arith, e, ltb-true b a h)))
+below-level true false a b h = go (eqb b a) (eqb b 0) refl refl
+  where
+    go : (p q : Bool) → eqb b a ≡ p → eqb b 0 ≡ q → (false || (p && (false || q))) ≡ false
+    go true true p q = absurd (omega (arith, eqb-true b a p, eqb-true b 0 q, ltb-true 0 (a + b) h))
+    go true false p q = refl
+    go false q p r = refl
+
+-- a value below a number is not at or above it
+lt-le : (x y : Float) → lt x y ≡ true → le y x ≡ false
+unfolding le lt eq
+lt-le nan y h = absurd (true≢false (sym h))
+lt-le (inf s) nan h = absurd (true≢false (sym h))
+lt-le (inf true) (inf true) h = absurd (true≢false (sym h))
+lt-le (inf true) (inf false) h = refl
+lt-le (inf false) (inf t) h = absurd (true≢false (sym h))
+lt-le (inf true) (fin t n d) h = refl
+lt-le (inf false) (fin t n d) h = absurd (true≢false (sym h))
+lt-le (fin s m e) nan h = absurd (true≢false (sym h))
+lt-le (fin s m e) (inf true) h = absurd (true≢false (sym h))
+lt-le (fin s m e) (inf false) h = refl
+lt-le (fin s m e) (fin t n d) h = below-level s t (m * up e * down d) (n * up d * down e) h
+
+module _ (es : List Float) (u : Searchable es) (x : Float) (f : fits binary64 x ≡ true) where
+  above-first : (g : ℕ) → g < length es - 1 → orderKey (at es g) < orderKey x → T (finite x) → lt x (at es 0) ≡ false
+  above-first g w l m = go (lt x (at es 0)) refl
+    where
+      go : (b : Bool) → lt x (at es 0) ≡ b → b ≡ false
+      go false e = refl
+      go true e =
+          absurd
+          (omega
+          (arith, l, sorted es (u .held) (u .finite) (u .increasing) 0 g (omega arith) (omega arith), key-less x (at es 0) (subst T (sym f) tt) (u .held 0) m (finite-at es 0 (u .finite) (omega arith)) e))
+
+  -- strictly between two edges, and below the last: inside the ends
+  between-bin : (table : Table) (g : ℕ) → table .last ≡ at es (length es - 1) → between es table x g ≡ true → some g ≡ builtBin Irregular es x
   unfolding between
-  between-bin g c =
-      let p = and-true (ltb g (length es - 1) && lt (at es g) x) (lt x (at es (g + 1))) c in
-      let q = and-true (ltb g (length es - 1)) (lt (at es g) x) (p .0) in
-      let w : g < length es - 1 = ltb-true _ _ (q .0) in
+  between-bin table g z c =
+      let p = and-true (ltb g (length es - 1)) (lt (at es g) x && (lt x (at es (g + 1)) && lt x (table .last))) c in
+      let q = and-true (lt (at es g) x) (lt x (at es (g + 1)) && lt x (table .last)) (p .1) in
+      let r = and-true (lt x (at es (g + 1))) (lt x (table .last)) (q .1) in
+      let w : g < length es - 1 = ltb-true _ _ (p .0) in
       let a = finite-at es g (u .finite) (omega arith) in
       let b = finite-at es (g + 1) (u .finite) (omega arith) in
-      let m = lt-finite (at es g) x (at es (g + 1)) a b (q .1) (p .1) in
+      let m = lt-finite (at es g) x (at es (g + 1)) a b (q .0) (r .0) in
       let t : T (fits binary64 x) = subst T (sym f) tt in
-      enclosed-bin es u x f g w (le-of-lt (key-less (at es g) x (u .held g) t a m (q .1))) (key-less x (at es (g + 1)) t (u .held (g + 1)) m b (p .1)) (inside (finite-number x m))
+      let l = key-less (at es g) x (u .held g) t a m (q .0) in
+      let o : outside es x ≡ false = rw (finite-number x m, above-first g w l m, lt-le x (at es (length es - 1)) (ap (lt x) (sym z) ∙ r .1)) in
+      enclosed-bin es u x f g w (le-of-lt l) (key-less x (at es (g + 1)) t (u .held (g + 1)) m b (r .0)) o
 
+module _ (es : List Float) (u : Searchable es) (x : Float) (f : fits binary64 x ≡ true) (inside : isNan x ≡ false → outside es x ≡ false) where
   near-found : (h : ℕ) → nearBin es x h ≡ builtBin Irregular es x
   unfolding nearBin
   near-found h =
       tested (holds es x h) h _ _ (held-bin es u x f inside h) (tested (holds es x (h + 1)) (h + 1) _ _ (held-bin es u x f inside (h + 1)) (halved-found es u x f inside))
 
-  hinted-found : (hints : List ℕ) (table : Table) → hintedBin es hints table x ≡ builtBin Irregular es x
-  unfolding hintedBin
-  hinted-found hints table = let h = hintFor es hints table x in tested (between es x h) h _ _ (between-bin h) (near-found h)
-
 module _ (es : List Float) (hints : List ℕ) (table : Table) where
-  pub inside-bin : (edges : BuiltEdges) (x : Float) → Tabled edges es table → fits binary64 x ≡ true → lt x (table .first) ≡ false → le (table .last) x ≡ false
-      → insideBin edges es hints table x ≡ builtBin edges es x
-  unfolding insideBin builtBin regularIndex
-  inside-bin (Regular e) x t f low high = rw (sym (ap (lt x) (t .ends .0)) ∙ low, sym (ap (λ (y : Float). le y x) (t .ends .1)) ∙ high)
-  inside-bin Irregular x t f low high = hinted-found es (t .usable) x f (λ n. rw (n, sym (ap (lt x) (t .ends .0)) ∙ low, sym (ap (λ (y : Float). le y x) (t .ends .1)) ∙ high)) hints table
+  hinted-found : (x : Float) → Tabled Irregular es table → fits binary64 x ≡ true → hintedBin es hints table x ≡ builtBin Irregular es x
+  unfolding hintedBin guessedBin outsideOf
+  hinted-found x t f =
+      let g = hintFor es hints table x in
+      let o : outsideOf table x ≡ outside es x = λ i. isNan x || lt x (t .ends .0 i) || le (t .ends .1 i) x in
+      tested (between es table x (nudged es x g)) (nudged es x g) _ _ (between-bin es (t .usable) x f table (nudged es x g) (t .ends .1)) (go g (outsideOf table x) o)
+    where
+      go : (g : ℕ) (b : Bool) → b ≡ outside es x → cond b none (nearBin es x g) ≡ builtBin Irregular es x
+      go g true v = none-outside es x (sym v)
+      go g false v = near-found es (t .usable) x f (λ n. sym v) g
+
+  batch-bin : (edges : BuiltEdges) → Tabled edges es table → (x : Float) → fits binary64 x ≡ true → batchBin edges es hints table x ≡ builtBin edges es x
+  unfolding batchBin
+  batch-bin (Regular e) t x f = refl
+  batch-bin Irregular t x f = hinted-found x t f
 
   module _ (edges : BuiltEdges) (t : Tabled edges es table) where
-    kept-bin : (x : Float) → fits binary64 x ≡ true → kept table x (numberOr (insideBin edges es hints table x)) ≡ numberOr (builtBin edges es x)
-    unfolding kept
-    kept-bin x f = go (lt x (table .first)) (le (table .last) x) refl refl
-      where
-        go : (a b : Bool) → lt x (table .first) ≡ a → le (table .last) x ≡ b → cond (a || b) 4096 (numberOr (insideBin edges es hints table x)) ≡ numberOr (builtBin edges es x)
-        go true b p q = ap numberOr (bin-low es (table .first) (table .last) x edges (t .ends) p)
-        go false true p q = ap numberOr (bin-high es (table .first) (table .last) x edges (t .ends) q)
-        go false false p q = ap numberOr (inside-bin edges x t f p q)
+    batch-map : (x : List Float) → ((i : ℕ) → T (fits binary64 (at x i))) → map (λ v. numberOr (batchBin edges es hints table v)) x ≡ map (λ v. numberOr (builtBin edges es v)) x
+    batch-map [] f = refl
+    batch-map (v ∷ x) f = λ i. numberOr (batch-bin edges t v (is-true (fits binary64 v) (f 0)) i) ∷ batch-map x (λ j. f (suc j)) i
 
-    dropped-map : (x : List Float) → ((i : ℕ) → T (fits binary64 (at x i))) → dropped table x (map (λ v. numberOr (insideBin edges es hints table v)) x) ≡ map (λ v. numberOr (builtBin edges es v)) x
-    unfolding dropped
-    dropped-map [] f = refl
-    dropped-map (v ∷ x) f = λ i. kept-bin v (is-true (fits binary64 v) (f 0)) i ∷ dropped-map x (λ j. f (suc j)) i
-
-    pub dropped-bin : (x room : List Float) (found : List ℕ) → ((i : ℕ) → T (fits binary64 (at x i))) → length room ≡ length x → length found ≡ length x
-        → droppedOf table x (foundOf edges es hints table x room found) ≡ map (λ v. numberOr (builtBin edges es v)) x
-    unfolding droppedOf
-    dropped-bin x room found f e h =
-        let l = map (λ v. numberOr (insideBin edges es hints table v)) x in
-        ap (droppedOf table x) (found-map x room found edges es hints table e h)
-        ∙ sym (drop-alike table x l (dropped table x l) (length-map x (λ v. numberOr (insideBin edges es hints table v))) refl) ∙ dropped-map x f
+    -- a table of accepted edges finds the edges' own bins
+    pub found-bins : (x : List Float) (found : List ℕ) → ((i : ℕ) → T (fits binary64 (at x i))) → length found ≡ length x → foundOf edges es hints table x found ≡ map (λ v. numberOr (builtBin edges es v)) x
+    found-bins x found f h = found-map edges es hints table x found h ∙ batch-map x f

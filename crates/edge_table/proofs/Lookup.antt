@@ -94,7 +94,7 @@ not-true : (a : Bool) → not a ≡ true → a ≡ false
 not-true false h = refl
 not-true true h = absurd (true≢false (sym h))
 
-none-outside : (es : List Float) (x : Float) → outside es x ≡ true → none ≡ builtBin Irregular es x
+pub none-outside : (es : List Float) (x : Float) → outside es x ≡ true → none ≡ builtBin Irregular es x
 unfolding builtBin irregularIndex
 none-outside es x v = rw v
 

@@ -1,6 +1,6 @@
 -- Lookups in edges by a table: what the functions return for any hints and table, also ones of other edges.
 use mathlib.Core.Option.{Option, none, some}
-use mathlib.Core.List.{List, [], _∷_, map}
+use mathlib.Core.List.{List, map}
 use mathlib.Core.Bool.{Bool, true, false, cond, not, _&&_, _||_}
 use Prim.Native.Nat.{ℕ, zero, suc, _+_, _-_, _*_, _/_, _%_, _^_}
 use lib.Dec.{leb, ltb, eqb}
@@ -8,8 +8,6 @@ use lib.ListN.{length, getD, set}
 use lib.IntN.{pos}
 use lib.Ieee.{Float, binary64, add, sub, mul, div, lt, le, isNan, ofInt, ofBits, toBits}
 use Rattle.definitions.specs.Lists.{at}
-use Rattle.definitions.specs.Floats.{asUsize}
-use Rattle.definitions.specs.Bins.{below}
 use Rattle.floats.specs.Order.{orderKey}
 use Rattle.bins.specs.declared.RegularBinEdges.{RegularBinEdges}
 use Rattle.reducer.specs.declared.BuiltEdges.{BuiltEdges}
@@ -84,7 +82,7 @@ unfoldable pub tableBin : BuiltEdges → List Float → Table → Float → Opti
 tableBin (Regular e) list table x = builtBin (Regular e) list x
 tableBin Irregular list table x = edgeBin list table x
 
--- ---- lookups of many values, which are not outside the ends
+-- ---- lookups of many values
 -- the bin, or a number past every bin
 abbrev pub numberOr : Option ℕ → ℕ
 numberOr none = 4096
@@ -97,17 +95,22 @@ quotient e x = div binary64 (sub binary64 x (e .min)) (e .«bin_size»)
 unfoldable pub guessOf : Float → ℕ
 guessOf q = toBits binary64 (add binary64 (add binary64 q (ofBits binary64 0x40af_ff80_0000_0000)) (ofBits binary64 0x4320_0000_0000_0000)) / 2 % 4096
 
--- h is the whole number of q
-unfoldable pub isSure : Float → ℕ → Bool
-isSure q h = le (ofInt binary64 (pos h)) q && lt q (add binary64 (ofInt binary64 (pos h)) (ofBits binary64 0x3ff0_0000_0000_0000))
+-- h is the whole number of the quotient q of x, which is inside the ends
+unfoldable pub isSure : RegularBinEdges → Float → Float → ℕ → Bool
+isSure e x q h =
+    le (ofInt binary64 (pos h)) q && (lt q (add binary64 (ofInt binary64 (pos h)) (ofBits binary64 0x3ff0_0000_0000_0000)) && (not (lt x (e .min)) && not (le (e .max) x)))
 
 -- the guess where it is right, else a mark past every number of bins
-unfoldable pub sureCut : Float → ℕ
-sureCut q = cond (isSure q (guessOf q)) (guessOf q) (2 ^ 64 - 1)
+unfoldable pub sureBin : RegularBinEdges → Float → ℕ
+sureBin e x = cond (isSure e x (quotient e x) (guessOf (quotient e x))) (guessOf (quotient e x)) (2 ^ 64 - 1)
 
--- strictly between the edges of bin h
-unfoldable pub between : List Float → Float → ℕ → Bool
-between list x h = ltb h (length list - 1) && lt (at list h) x && lt x (at list (h + 1))
+-- strictly between the edges of bin h, and below the last edge
+unfoldable pub between : List Float → Table → Float → ℕ → Bool
+between list table x h = ltb h (length list - 1) && (lt (at list h) x && (lt x (at list (h + 1)) && lt x (table .last)))
+
+-- the bin after g where the value is past g's upper edge
+unfoldable pub nudged : List Float → Float → ℕ → ℕ
+nudged list x g = g + bit (lt (at list (g + 1)) x)
 
 -- h or the bin after it, where it holds the value
 unfoldable pub nearBin : List Float → Float → ℕ → Option ℕ
@@ -117,36 +120,20 @@ nearBin list x h = cond (holds list x h) (some h) (cond (holds list x (h + 1)) (
 unfoldable pub hintFor : List Float → List ℕ → Table → Float → ℕ
 hintFor list hints table x = cond (ltb (placeOf table x) (length hints)) (getD hints (placeOf table x) 0) (halved list x)
 
+-- of the guess g
+unfoldable pub guessedBin : List Float → Table → Float → ℕ → Option ℕ
+guessedBin list table x g = cond (between list table x (nudged list x g)) (some (nudged list x g)) (cond (outsideOf table x) none (nearBin list x g))
+
 unfoldable pub hintedBin : List Float → List ℕ → Table → Float → Option ℕ
-hintedBin list hints table x = cond (between list x (hintFor list hints table x)) (some (hintFor list hints table x)) (nearBin list x (hintFor list hints table x))
+hintedBin list hints table x = guessedBin list table x (hintFor list hints table x)
 
-unfoldable pub insideBin : BuiltEdges → List Float → List ℕ → Table → Float → Option ℕ
-insideBin (Regular e) list hints table x = below (e .«n_bins») (some (asUsize (quotient e x)))
-insideBin Irregular list hints table x = hintedBin list hints table x
-
-unfoldable pub alike : List Float → List Float → List ℕ → Bool
-alike x room found = eqb (length room) (length x) && eqb (length found) (length x)
+unfoldable pub batchBin : BuiltEdges → List Float → List ℕ → Table → Float → Option ℕ
+batchBin (Regular e) list hints table x = builtBin (Regular e) list x
+batchBin Irregular list hints table x = hintedBin list hints table x
 
 -- the bin of each value; as they were where the lengths differ
-unfoldable pub foundOf : BuiltEdges → List Float → List ℕ → Table → List Float → List Float → List ℕ → List ℕ
-foundOf edges list hints table x room found = cond (alike x room found) (map (λ v. numberOr (insideBin edges list hints table v)) x) found
-
--- regular edges leave the quotients there
-unfoldable pub roomOf : BuiltEdges → List Float → List ℕ → List Float → List Float
-roomOf (Regular e) x found room = cond (alike x room found) (map (quotient e) x) room
-roomOf Irregular x found room = room
-
--- ---- values outside the ends
-unfoldable pub kept : Table → Float → ℕ → ℕ
-kept table x b = cond (lt x (table .first) || le (table .last) x) 4096 b
-
-unfoldable pub dropped : Table → List Float → List ℕ → List ℕ
-dropped table [] found = found
-dropped table (v ∷ x) [] = []
-dropped table (v ∷ x) (b ∷ found) = kept table v b ∷ dropped table x found
-
-unfoldable pub droppedOf : Table → List Float → List ℕ → List ℕ
-droppedOf table x found = cond (eqb (length found) (length x)) (dropped table x found) found
+unfoldable pub foundOf : BuiltEdges → List Float → List ℕ → Table → List Float → List ℕ → List ℕ
+foundOf edges list hints table x found = cond (eqb (length found) (length x)) (map (λ v. numberOr (batchBin edges list hints table v)) x) found
 
 -- ---- value edges, which a histogram has
 abbrev pub noTable : Table

@@ -4,16 +4,15 @@ use bins::RegularBinEdges;
 use reducer::BuiltEdges;
 use reducer::Reducer;
 ghost use mathlib.Core.Path.{_≡_};
-ghost use mathlib.Core.Option.{some};
 ghost use mathlib.Core.List.{map};
 ghost use Prim.Native.Nat.{_+_, _-_, _≤_, _<_};
 ghost use lib.ListN.{length, getD};
 ghost use Rattle.definitions.specs.Lists.{at};
-ghost use Rattle.definitions.specs.Floats.{asUsize};
-ghost use Rattle.definitions.specs.Bins.{below};
 ghost use Rattle.floats.specs.Order.{orderKey};
 ghost use Rattle.bins.specs.Answers.{indexOf};
-ghost use Rattle.edge_table.specs.Table.{tableOf, placeOf, endOf, spread, binHinted, hintsOf, outsideOf, edgeBin, tableBin, noTable, valueTableOf, numberOr, quotient, guessOf, isSure, sureCut, between, holds, climb, climb32, halved, halvedBin, nearBin, hintFor, hintedBin, foundOf, roomOf, kept, dropped, droppedOf};
+ghost use Rattle.reducer.specs.declared.BuiltEdges.the-variants.{Regular};
+ghost use Rattle.reducer.specs.Consume.{builtBin};
+ghost use Rattle.edge_table.specs.Table.{tableOf, placeOf, endOf, spread, binHinted, hintsOf, outsideOf, edgeBin, tableBin, noTable, valueTableOf, numberOr, guessOf, isSure, sureBin, between, nudged, holds, climb, climb32, halved, halvedBin, nearBin, hintFor, hintedBin, foundOf};
 
 // Ends of the edges, and places of hints a unit of the value.
 pub struct Table {
@@ -211,15 +210,17 @@ pub fn bin_of(edges: BuiltEdges, list: &[f64], table: Table, value: f64) -> BinI
 
 // ---- lookups of many values
 
-fn is_between(list: &[f64], x: f64, h: usize) -> bool
-    ensures { λ r. ⌜ r ≡ between (now (list .entry)) x h ⌝ }
+fn is_between(list: &[f64], table: Table, x: f64, h: usize) -> bool
+    ensures { λ r. ⌜ r ≡ between (now (list .entry)) table x h ⌝ }
 {
     let n = reducer::n_bins(BuiltEdges::Irregular, list.len());
     if h >= n {
         return false;
     }
     if list[h] < x {
-        return x < list[h + 1];
+        if x < list[h + 1] {
+            return x < table.last;
+        }
     }
     false
 }
@@ -257,14 +258,27 @@ fn hint_for(list: &[f64], hints: &[u8], table: Table, value: f64) -> usize
     halve(list, value)
 }
 
+// The hint, or the bin after it where the value is past the hint's upper edge; without a branch.
+fn nudge(list: &[f64], x: f64, g: usize) -> usize
+    requires { ⌜ g ≤ 255 ⌝ }
+    ensures { λ r. ⌜ r ≡ nudged (now (list .entry)) x g ⌝ }
+{
+    let upper = edge_at(list, g + 1);
+    g + ((upper < x) as usize)
+}
+
 fn hinted_bin(list: &[f64], hints: &[u8], table: Table, x: f64) -> usize
     ensures { λ r. ⌜ r ≡ numberOr (hintedBin (now (list .entry)) (now (hints .entry)) table x) ⌝ }
 {
-    let h = hint_for(list, hints, table, x);
-    if is_between(list, x, h) {
+    let g = hint_for(list, hints, table, x);
+    let h = nudge(list, x, g);
+    if is_between(list, table, x, h) {
         return h;
     }
-    near_bin(list, x, h)
+    if is_outside(table, x) {
+        return 4096;
+    }
+    near_bin(list, x, g)
 }
 
 // The same, with the way that most values take in front.
@@ -276,11 +290,16 @@ fn quick_bin(list: &[f64], hints: &[u8], table: Table, x: f64) -> usize
     if !floats::is_nan(place) {
         let q = (f64::to_bits(place) % 4096) as usize;
         if q < hints.len() {
-            let h = hints[q] as usize;
-            if h < n {
-                if list[h] < x {
-                    if x < list[h + 1] {
-                        return h;
+            let g = hints[q] as usize;
+            if g < n {
+                let h = g + ((list[g + 1] < x) as usize);
+                if h < n {
+                    if list[h] < x {
+                        if x < list[h + 1] {
+                            if x < table.last {
+                                return h;
+                            }
+                        }
                     }
                 }
             }
@@ -300,13 +319,6 @@ fn hinted_bins(list: &[f64], hints: &[u8], table: Table, x: &[f64], found: &mut 
     }
 }
 
-fn cut_to_bin(n_bins: usize, x: f64) -> usize
-    ensures { λ r. ⌜ r ≡ numberOr (below «n_bins» (some (asUsize x))) ⌝ }
-{
-    let b = floats::as_usize(x);
-    if b < n_bins { b } else { 4096 }
-}
-
 // Adding 2^51 rounds to a half; the bits above the last then hold the whole number.
 fn guess_of(q: f64) -> usize
     ensures { λ r. ⌜ (r ≡ guessOf q) × (r < 4096) ⌝ }
@@ -315,124 +327,83 @@ fn guess_of(q: f64) -> usize
     ((floats::to_bits(z) / 2) % 4096) as usize
 }
 
-// Whether h is q without its fraction.
-fn is_sure(q: f64, h: usize) -> bool
+// Whether h is the quotient without its fraction, of a value inside the ends.
+fn is_sure(e: RegularBinEdges, x: f64, q: f64, h: usize) -> bool
     requires { ⌜ h < 4096 ⌝ }
-    ensures { λ r. ⌜ r ≡ isSure q h ⌝ }
+    ensures { λ r. ⌜ r ≡ isSure e x q h ⌝ }
 {
     let f = h as f64;
     let next = f + 1.0;
-    if f <= q { q < next } else { false }
+    if f <= q {
+        if q < next {
+            if x < e.min {
+                return false;
+            }
+            if e.max <= x {
+                return false;
+            }
+            return true;
+        }
+    }
+    false
 }
 
-// The largest usize where the guess is not right.
-fn sure_cut(q: f64) -> usize
-    ensures { λ r. ⌜ r ≡ sureCut q ⌝ }
+// The bin where a guess is right, else the largest usize.
+fn sure_bin(e: RegularBinEdges, x: f64) -> usize
+    ensures { λ r. ⌜ r ≡ sureBin e x ⌝ }
 {
+    let q = (x - e.min) / e.bin_size;
     let h = guess_of(q);
-    if is_sure(q, h) { h } else { usize::MAX }
+    if is_sure(e, x, q, h) { h } else { usize::MAX }
 }
 
 // A loop of its own, with nothing but arithmetic, goes several values at a time.
-fn sure_cuts(edges: RegularBinEdges, x: &[f64], room: &mut [f64], found: &mut [usize])
-    requires { ⌜ length (now room) ≡ length (now x) ⌝ ∗ ⌜ length (now found) ≡ length (now x) ⌝ }
-    ensures { λ _. ⌜ now (room .exit) ≡ map (quotient edges) (now (x .entry)) ⌝ }
-    ensures { λ _. ⌜ now (found .exit) ≡ map (λ v. sureCut (quotient edges v)) (now (x .entry)) ⌝ }
+fn sure_bins(e: RegularBinEdges, x: &[f64], found: &mut [usize])
+    requires { ⌜ length (now found) ≡ length (now x) ⌝ }
+    ensures { λ _. ⌜ now (found .exit) ≡ map (sureBin e) (now (x .entry)) ⌝ }
 {
-    let min = edges.min;
-    let size = edges.bin_size;
     let mut q = 0;
     while q < x.len() {
-        let v = (x[q] - min) / size;
-        room[q] = v;
-        found[q] = sure_cut(v);
+        found[q] = sure_bin(e, x[q]);
         q += 1;
     }
 }
 
-// Of a number that is no bin.
-fn settle(n_bins: usize, x: f64, b: usize) -> usize
-    requires { ⌜ b ≡ sureCut x ⌝ ∗ ⌜ «n_bins» ≤ b ⌝ }
-    ensures { λ r. ⌜ r ≡ numberOr (below «n_bins» (some (asUsize x))) ⌝ }
-{
-    if b == usize::MAX {
-        return cut_to_bin(n_bins, x);
-    }
-    4096
-}
-
-fn settle_all(n_bins: usize, x: &[f64], found: &mut [usize])
-    requires { ⌜ length (now found) ≡ length (now x) ⌝ ∗ ⌜ now found ≡ map sureCut (now x) ⌝ }
-    ensures { λ _. ⌜ now (found .exit) ≡ map (λ v. numberOr (below «n_bins» (some (asUsize v)))) (now (x .entry)) ⌝ }
+// Looks up what is no bin yet.
+fn settle_all(e: RegularBinEdges, list: &[f64], x: &[f64], found: &mut [usize])
+    requires { ⌜ length (now found) ≡ length (now x) ⌝ ∗ ⌜ now found ≡ map (sureBin e) (now x) ⌝ }
+    ensures { λ _. ⌜ now (found .exit) ≡ map (λ v. numberOr (builtBin (Regular e) (now (list .entry)) v)) (now (x .entry)) ⌝ }
 {
     let mut q = 0;
     while q < x.len() {
-        if found[q] >= n_bins {
-            found[q] = settle(n_bins, x[q], found[q]);
+        if found[q] >= e.n_bins {
+            found[q] = number_of(reducer::bin_of(BuiltEdges::Regular(e), list, x[q]));
         }
         q += 1;
     }
 }
 
-// The bin of each value that is not outside the ends; 4096 where there is none. Nothing is done where the lengths differ.
+// The bin of each value; 4096 where there is none. Nothing is done where the lengths differ.
 pub fn bins_of(
     edges: BuiltEdges,
     list: &[f64],
     hints: &[u8],
     table: Table,
     x: &[f64],
-    room: &mut [f64],
     found: &mut [usize],
 )
-    ensures { λ _. ⌜ now (room .exit) ≡ roomOf edges (now (x .entry)) (now (found .entry)) (now (room .entry)) ⌝ }
-    ensures { λ _. ⌜ now (found .exit) ≡ foundOf edges (now (list .entry)) (now (hints .entry)) table (now (x .entry)) (now (room .entry)) (now (found .entry)) ⌝ }
+    ensures { λ _. ⌜ now (found .exit) ≡ foundOf edges (now (list .entry)) (now (hints .entry)) table (now (x .entry)) (now (found .entry)) ⌝ }
 {
-    if room.len() != x.len() {
-        return;
-    }
     if found.len() != x.len() {
         return;
     }
     match edges {
         BuiltEdges::Regular(e) => {
-            sure_cuts(e, x, &mut *room, &mut *found);
-            settle_all(e.n_bins, &*room, found);
+            sure_bins(e, x, &mut *found);
+            settle_all(e, list, x, found);
         }
         BuiltEdges::Irregular => hinted_bins(list, hints, table, x, found),
     }
-}
-
-fn keep_inside(table: Table, x: f64, b: usize) -> usize
-    ensures { λ r. ⌜ r ≡ kept table x b ⌝ }
-{
-    if x < table.first {
-        return 4096;
-    }
-    if table.last <= x {
-        return 4096;
-    }
-    b
-}
-
-fn drop_all(table: Table, x: &[f64], found: &mut [usize])
-    requires { ⌜ length (now found) ≡ length (now x) ⌝ }
-    ensures { λ _. ⌜ now (found .exit) ≡ dropped table (now (x .entry)) (now (found .entry)) ⌝ }
-{
-    let mut q = 0;
-    while q < x.len() {
-        found[q] = keep_inside(table, x[q], found[q]);
-        q += 1;
-    }
-}
-
-// 4096 in place of the bin of each value outside the ends. Nothing is done where the lengths differ.
-pub fn drop_outside(table: Table, x: &[f64], found: &mut [usize])
-    ensures { λ _. ⌜ now (found .exit) ≡ droppedOf table (now (x .entry)) (now (found .entry)) ⌝ }
-{
-    if found.len() != x.len() {
-        return;
-    }
-    drop_all(table, x, found);
 }
 
 // ---- value edges

@@ -1,7 +1,7 @@
-use Rattle.edge_table.specs.Table.{guessOf}
-use native.Mathlib.Omega.{arith}
-use Prim.Native.Nat.{ℕ, _/_, _%_}
 use mathlib.Core.Path.{ap}
+use Prim.Native.Nat.{ℕ, _/_, _%_}
+use native.Mathlib.Omega.{arith}
+use Rattle.edge_table.specs.Table.{guessOf}
 use borrow.Author.Needs.{needs}
 use Rattle.edge_table.proofs.guess_of.Statement.{statement}
 use Rattle.edge_table.proofs.guess_of.Tie as tie
@@ -9,11 +9,11 @@ use Rattle.edge_table.proofs.guess_of.Reads as reads
 use Rattle.edge_table.proofs.guess_of.Lts as lts
 use Rattle.floats.proofs.to_bits.Reads as to-bits-reads
 
--- src/lib.rt:329:7
+-- src/lib.rt:388:7
 to-bits-requires : tie.Need-to-bits-requires
 to-bits-requires c κs = search needs
 
--- src/lib.rt:325:1
+-- src/lib.rt:384:1
 returns : tie.Need-returns
 unfolding guessOf
 returns c = (ap (λ (n : ℕ). n / 2 % 4096) (c .to-bits .ensures), omega arith)
