@@ -11,15 +11,19 @@ use native.Mathlib.Omega.{arith}
 use lib.Dec.{T, ltb, leb}
 use lib.ListN.{length, getD, set, take, length-map}
 use lib.Seq.{getD-set-same, getD-set-other, take-suc, take-set-le, take-suc-set, take-length, length-take-le, ext-getD}
-use lib.Ieee.{Float, nan, binary64, lt, le, fits}
+use lib.Ieee.{Float, nan, binary64, lt, le, mul, fits}
 use lib.Ieee.Bits.{is-true}
 use lib.Ieee.Fits.{nan-fits, add-fits}
 use borrow.Author.Tests.{ltb-true, lt-leb}
+use Rattle.definitions.specs.Lists.{at}
 use Rattle.definitions.specs.Bins.{below}
 use Rattle.definitions.specs.Points as points
 use Rattle.definitions.specs.Points.{squaredDiffNorm}
 use Rattle.definitions.specs.Reducer.{Datum, componentSum, pairIn, datumOf}
 use Rattle.laws.proofs.Loops.{runOn, run-append}
+use Rattle.bins.specs.declared.BinIndex.{BinIndex}
+use Rattle.bins.specs.declared.BinIndex.the-variants.{At, None}
+use Rattle.bins.specs.Answers.{indexOf}
 use Rattle.reducer.specs.declared.BuiltEdges.{BuiltEdges}
 use Rattle.reducer.specs.declared.PairOperation.{PairOperation}
 use Rattle.reducer.specs.declared.Reducer.{Reducer}
@@ -28,14 +32,14 @@ use Rattle.reducer.specs.Readings.{opOf}
 use Rattle.reducer.specs.Consume.{reducerSize, builtBins, builtBin, hasRoom, addIn, consumedAt, consumed}
 use Rattle.reducer.proofs.Ways.{consumed-found}
 use Rattle.edge_table.specs.declared.Table.{Table}
-use Rattle.edge_table.specs.Table.{numberOr, insideBin, foundOf, droppedOf}
+use Rattle.edge_table.specs.Table.{numberOr, foundOf, tableBin}
 use Rattle.edge_table.specs.Tabled.{EndsOf, Tabled, TabledValues}
-use Rattle.edge_table.proofs.Batch.{found-map, inside-bin, dropped-bin}
-use Rattle.edge_table.proofs.Lookup.{bin-low, bin-high}
+use Rattle.edge_table.proofs.Batch.{found-bins}
+use Rattle.edge_table.proofs.Lookup.{bin-low, bin-high, found-bin}
 use Rattle.unstructured.specs.declared.Setup.{Setup}
 use Rattle.unstructured.specs.declared.Pair.{Pair}
-use Rattle.unstructured.specs.Pairs.{thePair, builtPair, pairAdded, pairStep, rowAdded}
-use Rattle.unstructured.specs.Batches.{Listed, bit, inside, also, keptBelow, picked, numberedPair, pairPlaced, pairValues, placedTo, valueNumbers, placesAdded}
+use Rattle.unstructured.specs.Pairs.{thePair, pointIn, builtPair, pairAdded, pairStep, rowAdded}
+use Rattle.unstructured.specs.Batches.{Listed, bit, inside, also, keptBelow, picked, numberedPair, pairPlaced, pairValues, placedTo, weightDatum, weightsTo, valueNumbers, placesAdded}
 
 -- ---- bits
 pub bit-le : (t : Bool) → bit t ≤ 1
@@ -291,8 +295,7 @@ module _ (setup : Setup) (list valueEdges : List Float) (a : points.Point) (g : 
       ap (rowAdded setup list valueEdges a g (j + m) (n - (j + m))) e ∙ sym (row-join j m (n - (j + m)) s) ∙ sym (ap (λ (x : ℕ). rowAdded setup list valueEdges a g j x s) k) ∙ inv
 
   -- ---- a batch: its listed pairs are the row's
-  module _ (hints : List ℕ) (table : Table) (tabled : Tabled (setup .edges) list table) (d : List Float) (m j : ℕ) (distant : (e : ℕ) → e < m → getD d e nan ≡ squaredDiffNorm a (g (j + e)))
-      (valueFound : List ℕ) where
+  module _ (table : Table) (tabled : Tabled (setup .edges) list table) (d : List Float) (m j : ℕ) (distant : (e : ℕ) → e < m → getD d e nan ≡ squaredDiffNorm a (g (j + e))) (valueFound : List ℕ) where
     abbrev listed : List ℕ
     listed = keptBelow (table .first) (table .last) d m
 
@@ -300,15 +303,7 @@ module _ (setup : Setup) (list valueEdges : List Float) (a : points.Point) (g : 
     value e = componentSum (datumOf (opOf (setup .op)) (a .rd) (g (j + e) .rd))
 
     abbrev binNumber : Float → ℕ
-    binNumber x = numberOr (insideBin (setup .edges) list hints table x)
-
-    distant-fits : (e : ℕ) → e < m → fits binary64 (getD d e nan) ≡ true
-    distant-fits e h = ap (fits binary64) (distant e h) ∙ is-true _ (add-fits binary64 _ _)
-
-    found-number : (e : ℕ) → e < m → lt (getD d e nan) (table .first) ≡ false → le (table .last) (getD d e nan) ≡ false
-        → binNumber (getD d e nan) ≡ numberOr (builtBin (setup .edges) list (squaredDiffNorm a (g (j + e))))
-    found-number e h p q =
-        ap numberOr (inside-bin list hints table (setup .edges) (getD d e nan) tabled (distant-fits e h) p q ∙ ap (builtBin (setup .edges) list) (distant e h))
+    binNumber x = numberOr (builtBin (setup .edges) list x)
 
     pair-placed : (q : ℕ) → q < length listed → (t : List Float)
         → pairPlaced setup (length valueEdges) (getD (valueNumbers (setup .reducer) valueEdges (map value listed) valueFound) q 0)
@@ -317,20 +312,20 @@ module _ (setup : Setup) (list valueEdges : List Float) (a : points.Point) (g : 
     unfolding pairStep builtPair
     pair-placed q h t =
         let e = getD listed q 0 in
-        let n = kept-all (λ e. binNumber (getD d e nan) ≡ numberOr (builtBin (setup .edges) list (squaredDiffNorm a (g (j + e))))) (table .first) (table .last) d m found-number q h in
+        let n = kept-all (λ e. getD d e nan ≡ squaredDiffNorm a (g (j + e))) (table .first) (table .last) d m (λ e l p q. distant e l) q h in
         let v = getD (valueNumbers (setup .reducer) valueEdges (map value listed) valueFound) q 0 in
-        ap (λ (x : ℕ). pairPlaced setup (length valueEdges) v (numberedPair setup a (g (j + e)) x) t) (at-maps (λ e. getD d e nan) binNumber listed q 0 nan 0 h ∙ n)
+        ap (λ (x : ℕ). pairPlaced setup (length valueEdges) v (numberedPair setup a (g (j + e)) x) t) (at-maps (λ e. getD d e nan) binNumber listed q 0 nan 0 h ∙ ap binNumber n)
         ∙ numbered setup valueEdges a (g (j + e)) v t (builtBin (setup .edges) list (squaredDiffNorm a (g (j + e)))) (λ r k. value-at (setup .reducer) r valueEdges value listed valueFound q h k)
 
-    listed-row : (s : List Float) → placesAdded setup list valueEdges hints table a g j listed (picked d listed) valueFound s ≡ rowAdded setup list valueEdges a g j m s
+    listed-row : (s : List Float) → placesAdded setup list valueEdges a g j listed (picked d listed) valueFound s ≡ rowAdded setup list valueEdges a g j m s
     unfolding placesAdded picked pairValues
     listed-row s =
         placed-all setup (length valueEdges) a g j listed (map binNumber (map (λ e. getD d e nan) listed)) (valueNumbers (setup .reducer) valueEdges (map value listed) valueFound) (placeStep j) pair-placed s
         ∙ kept-row (table .first) (table .last) (tabled .ends) d j m s distant
 
-    pub batch-row : (places : List ℕ) (x s q : List Float) → places ≡ listed → x ≡ picked d listed → q ≡ placesAdded setup list valueEdges hints table a g j places x valueFound s
+    pub batch-row : (places : List ℕ) (x s q : List Float) → places ≡ listed → x ≡ picked d listed → q ≡ placesAdded setup list valueEdges a g j places x valueFound s
         → q ≡ rowAdded setup list valueEdges a g j m s
-    batch-row places x s q e k r = r ∙ (λ i. placesAdded setup list valueEdges hints table a g j (e i) (k i) valueFound s) ∙ listed-row s
+    batch-row places x s q e k r = r ∙ (λ i. placesAdded setup list valueEdges a g j (e i) (k i) valueFound s) ∙ listed-row s
 
 -- ---- values
 module _ (a : points.Point) (g : ℕ → points.Point) (j : ℕ) (op : PairOperation) where
@@ -357,21 +352,84 @@ module _ (kind : Reducer) (edges : List Float) (found : List ℕ) (x : List Floa
   unfolding valueNumbers
   value-mean h = rw h
 
-  -- y is what the values were written to, q and r what the two lookups left
-  pub value-found : (e : BuiltEdges) (hints : List ℕ) (table : Table) (room y : List Float) (q r : List ℕ) → kind ≡ ComponentSumHistogram e → TabledValues kind edges table
-      → ((i : ℕ) → T (fits binary64 (getD x i nan))) → length room ≡ length y → length found ≡ length y → y ≡ x → q ≡ foundOf e edges hints table y room found → r ≡ droppedOf table y q
-      → r ≡ valueNumbers kind edges x found
+  -- y is what the values were written to, q what the lookups left
+  pub value-found : (e : BuiltEdges) (hints : List ℕ) (table : Table) (y : List Float) (q : List ℕ) → kind ≡ ComponentSumHistogram e → TabledValues kind edges table
+      → ((i : ℕ) → T (fits binary64 (getD x i nan))) → length found ≡ length y → y ≡ x → q ≡ foundOf e edges hints table y found → q ≡ valueNumbers kind edges x found
   unfolding valueNumbers
-  value-found e hints table room y q r h t f k l same p z =
-      z ∙ ap (droppedOf table y) p
-      ∙ dropped-bin edges hints table e (subst (λ (k : Reducer). TabledValues k edges table) h t) y room found (λ i. subst (λ (w : List Float). T (fits binary64 (getD w i nan))) (sym same) (f i)) k l
+  value-found e hints table y q h t f l same p =
+      p ∙ found-bins edges hints table e (subst (λ (k : Reducer). TabledValues k edges table) h t) y found (λ i. subst (λ (w : List Float). T (fits binary64 (getD w i nan))) (sym same) (f i)) l
       ∙ ap (map (λ v. numberOr (builtBin e edges v))) same ∙ (rw h)
 
 -- the pairs added by what the lookups left
-pub places-added : (setup : Setup) (list valueEdges : List Float) (hints : List ℕ) (table : Table) (a : points.Point) (g : ℕ → points.Point) (j : ℕ) (places : List ℕ) (d room : List Float)
-    (found valueFound u v : List ℕ) (s q : List Float) → length room ≡ length d → length found ≡ length d → u ≡ foundOf (setup .edges) list hints table d room found
+pub places-added : (setup : Setup) (list valueEdges : List Float) (hints : List ℕ) (table : Table) (a : points.Point) (g : ℕ → points.Point) (j : ℕ) (places : List ℕ) (d : List Float)
+    (found valueFound u v : List ℕ) (s q : List Float) → Tabled (setup .edges) list table → ((i : ℕ) → T (fits binary64 (getD d i nan))) → length found ≡ length d → u ≡ foundOf (setup .edges) list hints table d found
     → v ≡ valueNumbers (setup .reducer) valueEdges (pairValues a g j (setup .op) places) valueFound → q ≡ placedTo a g j setup (length valueEdges) places u v (length places) s
-    → q ≡ placesAdded setup list valueEdges hints table a g j places d valueFound s
+    → q ≡ placesAdded setup list valueEdges a g j places d valueFound s
 unfolding placesAdded
-places-added setup list valueEdges hints table a g j places d room found valueFound u v s q h k e f r =
-    r ∙ (λ i. placedTo a g j setup (length valueEdges) places ((e ∙ found-map d room found (setup .edges) list hints table h k) i) (f i) (length places) s)
+places-added setup list valueEdges hints table a g j places d found valueFound u v s q t w k e f r =
+    r ∙ (λ i. placedTo a g j setup (length valueEdges) places ((e ∙ found-bins list hints table (setup .edges) t d found w k) i) (f i) (length places) s)
+
+-- ---- a histogram's pairs by their weights
+module _ (e : BuiltEdges) (m n v : ℕ) (x : Datum) (y : Float) (same : x .weight ≡ y) (s : List Float) where
+  weight-alone : (b : ℕ) → consumedAt (ComponentSumHistogram e) m (some v) n b (weightDatum y) s ≡ consumedAt (ComponentSumHistogram e) m (some v) n b x s
+  unfolding consumedAt
+  weight-alone b = λ i. cond (hasRoom n (builtBins e m) b (length s)) (addIn (below (builtBins e m) (some v)) n b (sym same i) s) s
+
+module _ (setup : Setup) (e : BuiltEdges) (kind : setup .reducer ≡ ComponentSumHistogram e) (m : ℕ) (a : points.Point) (p v w : List Float) (stride j : ℕ) (places found valueFound : List ℕ) where
+  weight-placed : (x b k : ℕ) (s : List Float) → consumedAt (ComponentSumHistogram e) m (some x) (setup .«n_states») b (weightDatum (mul binary64 (a .rd .w) (at w k))) s
+      ≡ pairPlaced setup m x (numberedPair setup a (pointIn p v w stride k) b) s
+  unfolding numberedPair pointIn
+  weight-placed x b k s = go (ltb b (setup .«n_states»)) refl
+    where
+      y : Datum
+      y = datumOf (opOf (setup .op)) (a .rd) (pointIn p v w stride k .rd)
+
+      go : (t : Bool) → ltb b (setup .«n_states») ≡ t → consumedAt (ComponentSumHistogram e) m (some x) (setup .«n_states») b (weightDatum (mul binary64 (a .rd .w) (at w k))) s
+          ≡ pairPlaced setup m x (pairIn (cond t (some b) none) y) s
+      go true h = weight-alone e m (setup .«n_states») x y (mul binary64 (a .rd .w) (at w k)) refl s b ∙ ap (λ (r : Reducer). consumedAt r m (some x) (setup .«n_states») b y s) (sym kind)
+      go false h = no-room (ComponentSumHistogram e) m (some x) (setup .«n_states») b _ s (past-states (setup .«n_states») (builtBins e m) b (length s) h)
+
+  weights-placed : (q : ℕ) (s : List Float) → weightsTo e m (setup .«n_states») (a .rd .w) w j places found valueFound q s ≡ placedTo a (pointIn p v w stride) j setup m places found valueFound q s
+  unfolding weightsTo placedTo
+  weights-placed zero s = refl
+  weights-placed (suc q) s =
+      ap (λ (t : List Float). consumedAt (ComponentSumHistogram e) m (some (getD valueFound q 0)) (setup .«n_states») (getD found q 0) (weightDatum (mul binary64 (a .rd .w) (at w (j + getD places q 0)))) t) (weights-placed q s)
+      ∙ weight-placed (getD valueFound q 0) (getD found q 0) (j + getD places q 0) _
+
+  pub by-weights : (s q : List Float) → q ≡ weightsTo e m (setup .«n_states») (a .rd .w) w j places found valueFound (length places) s
+      → q ≡ placedTo a (pointIn p v w stride) j setup m places found valueFound (length places) s
+  by-weights s q h = h ∙ weights-placed (length places) s
+
+module _ (e : BuiltEdges) (m n : ℕ) (w : Float) (weights : List Float) (j : ℕ) (places found valueFound : List ℕ) where
+  pub weights-none : (s : List Float) → s ≡ weightsTo e m n w weights j places found valueFound 0 s
+  unfolding weightsTo
+  weights-none s = refl
+
+  pub weights-next : (q : ℕ) (z s r : List Float) → s ≡ weightsTo e m n w weights j places found valueFound q z
+      → r ≡ consumedAt (ComponentSumHistogram e) m (some (getD valueFound q 0)) n (getD found q 0) (weightDatum (mul binary64 w (at weights (j + getD places q 0)))) s
+      → r ≡ weightsTo e m n w weights j places found valueFound (q + 1) z
+  unfolding weightsTo
+  weights-next q z s r h k = rw (add-one, ← h) k
+
+-- ---- few points: the pairs of a row, one after the other
+module _ (setup : Setup) (list valueEdges : List Float) (a : points.Point) (g : ℕ → points.Point) (n : ℕ) (z : List Float) where
+  pub row-turn : (j : ℕ) (b : points.Point) (s q : List Float) → j < n → b ≡ g j → q ≡ pairStep setup list valueEdges (a, b) s → rowAdded setup list valueEdges a g j (n - j) s ≡ z
+      → rowAdded setup list valueEdges a g (j + 1) (n - (j + 1)) q ≡ z
+  row-turn j b s q h e k inv =
+      let d : n - j ≡ suc (n - (j + 1)) = omega arith in
+      (rw (k, e, add-one j)) ∙ sym (row-cons setup list valueEdges a g j (n - (j + 1)) s) ∙ sym (ap (λ (x : ℕ). rowAdded setup list valueEdges a g j x s) d) ∙ inv
+
+-- x is the distance, r the answer of `bin_of`
+module _ (setup : Setup) (list valueEdges : List Float) (a b : points.Point) (table : Table) (tabled : Tabled (setup .edges) list table) (x : Float) (e : x ≡ squaredDiffNorm a b) (r : BinIndex)
+    (h : indexOf r ≡ tableBin (setup .edges) list table x) (s : List Float) where
+  one-bin : indexOf r ≡ builtBin (setup .edges) list (squaredDiffNorm a b)
+  one-bin = found-bin (setup .edges) list table (squaredDiffNorm a b) (indexOf r) (h ∙ ap (tableBin (setup .edges) list table) e) tabled (is-true _ (add-fits binary64 _ _))
+
+  pub one-kept : (i : ℕ) (d : Datum) (q : List Float) → r ≡ At i → d ≡ datumOf (opOf (setup .op)) (a .rd) (b .rd) → q ≡ consumed (setup .reducer) valueEdges (setup .«n_states») i d s
+      → q ≡ pairStep setup list valueEdges (a, b) s
+  unfolding pairStep builtPair
+  one-kept i d q t w k = k ∙ sym (rw (← one-bin, t, ← w))
+
+  pub one-dropped : r ≡ None → s ≡ pairStep setup list valueEdges (a, b) s
+  unfolding pairStep builtPair
+  one-dropped t = sym (rw (← one-bin, t))

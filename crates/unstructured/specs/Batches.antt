@@ -4,18 +4,19 @@ use mathlib.Core.List.{List, [], _∷_, _++_, map}
 use mathlib.Core.Bool.{Bool, true, false}
 use Prim.Native.Nat.{ℕ, zero, suc, _+_, _-_, _*_, _<_, _≤_}
 use lib.ListN.{length, getD}
-use lib.Ieee.{Float, nan, lt, le}
+use lib.Ieee.{Float, binary64, nan, lt, le, mul, ofBits}
+use Rattle.definitions.specs.Lists.{at}
 use Rattle.definitions.specs.Bins.{below}
 use Rattle.definitions.specs.Points as Points
 use Rattle.definitions.specs.Reducer as Reducer
 use Rattle.definitions.specs.Reducer.{kept, dropped, pairIn, datumOf, componentSum}
+use Rattle.reducer.specs.declared.BuiltEdges.{BuiltEdges}
 use Rattle.reducer.specs.declared.PairOperation.{PairOperation}
 use Rattle.reducer.specs.declared.Reducer as declared
 use Rattle.reducer.specs.declared.Reducer.the-variants.{Comp0Mean, ComponentSumMean, ComponentSumHistogram}
 use Rattle.reducer.specs.Readings.{opOf}
 use Rattle.reducer.specs.Consume.{builtBin, consumedAt}
-use Rattle.edge_table.specs.declared.Table.{Table}
-use Rattle.edge_table.specs.Table.{numberOr, insideBin}
+use Rattle.edge_table.specs.Table.{numberOr}
 use Rattle.edge_table.specs.Tabled.{Usable, UsableValues, Tabled, TabledValues}
 use Rattle.unstructured.specs.declared.Setup.{Setup}
 use Rattle.unstructured.specs.declared.Tables.{Tables}
@@ -31,9 +32,8 @@ pub record TabledRun (setup : Setup) (list valueEdges : List Float) (tables : Ta
   pub values : TabledValues (setup .reducer) valueEdges (tables .values)
 
 -- a batch of m points has room in each slice
-pub record Rooms (m : ℕ) (d room : List Float) (places found valueFound : List ℕ) : Type 0 where
+pub record Rooms (m : ℕ) (d : List Float) (places found valueFound : List ℕ) : Type 0 where
   pub distances : m ≤ length d
-  pub quotients : m ≤ length room
   pub listed : m ≤ length places
   pub bins : m ≤ length found
   pub values : m ≤ length valueFound
@@ -92,8 +92,19 @@ valueNumbers Comp0Mean edges x found = found
 valueNumbers ComponentSumMean edges x found = found
 valueNumbers (ComponentSumHistogram e) edges x found = map (λ v. numberOr (builtBin e edges v)) x
 
+-- a datum of which the weight alone counts
+abbrev pub weightDatum : Float → Reducer.Datum
+weightDatum w = record { c0 = ofBits binary64 0; c1 = ofBits binary64 0; c2 = ofBits binary64 0; weight = w }
+
+-- the first n pairs of a histogram, of a weight with those of a batch whose first point is j
+unfoldable pub weightsTo : BuiltEdges → ℕ → ℕ → Float → List Float → ℕ → List ℕ → List ℕ → List ℕ → ℕ → List Float → List Float
+weightsTo e m n w weights j places found valueFound zero s = s
+weightsTo e m n w weights j places found valueFound (suc q) s =
+    consumedAt (ComponentSumHistogram e) m (some (getD valueFound q 0)) n (getD found q 0) (weightDatum (mul binary64 w (at weights (j + getD places q 0))))
+    (weightsTo e m n w weights j places found valueFound q s)
+
 -- the pairs of a with places of a batch, whose distances are d
-unfoldable pub placesAdded : Setup → List Float → List Float → List ℕ → Table → Points.Point → (ℕ → Points.Point) → ℕ → List ℕ → List Float → List ℕ → List Float → List Float
-placesAdded setup list valueEdges hints table a g j places d valueFound s =
-    placedTo a g j setup (length valueEdges) places (map (λ x. numberOr (insideBin (setup .edges) list hints table x)) d)
+unfoldable pub placesAdded : Setup → List Float → List Float → Points.Point → (ℕ → Points.Point) → ℕ → List ℕ → List Float → List ℕ → List Float → List Float
+placesAdded setup list valueEdges a g j places d valueFound s =
+    placedTo a g j setup (length valueEdges) places (map (λ x. numberOr (builtBin (setup .edges) list x)) d)
     (valueNumbers (setup .reducer) valueEdges (pairValues a g j (setup .op) places) valueFound) (length places) s

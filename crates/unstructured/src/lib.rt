@@ -9,49 +9,34 @@ use reducer::Kind;
 use reducer::PairOperation;
 use reducer::Reducer;
 use state::Outcome;
+use unstructured_points::Point;
+use unstructured_points::PointSet;
 ghost use mathlib.Core.Path.{_≡_};
 ghost use mathlib.Core.Bool.{true};
-ghost use mathlib.Core.List.{[]};
 ghost use mathlib.Core.Option.{some};
 ghost use Prim.Native.Nat.{ℕ, _+_, _-_, _<_, _≤_};
 ghost use lib.ListN.{length, getD, take};
 ghost use lib.Ieee.{nan};
 ghost use Rattle.definitions.specs.Bins.{below};
-ghost use Rattle.definitions.specs.Points.{points, pointAt, strideOr, squaredDiffNorm};
+ghost use Rattle.definitions.specs.Points.{squaredDiffNorm};
 ghost use Rattle.definitions.specs.Run.{merged};
-ghost use Rattle.definitions.specs.Rules.{refusal, met, overPoints, pointRules, overSets, setRules, runRules, step};
+ghost use Rattle.definitions.specs.Rules.{refusal, met, runRules, step};
 ghost use Rattle.state.specs.Readings.{numberOf};
 ghost use Rattle.bins.specs.Answers.{indexOf};
 ghost use Rattle.reducer.specs.Readings.{edgesOf, kindOf};
-ghost use Rattle.edge_table.specs.Tabled.{TabledValues};
+ghost use Rattle.edge_table.specs.Tabled.{Tabled, TabledValues};
 ghost use Rattle.parallel_serial.specs.Drive.{zeroPack, addedScratch};
 ghost use Rattle.parallel_serial.proofs.Refusals.{Drivable};
-ghost use Rattle.unstructured.specs.Readings.{strideOf, pointsOf, setsRun, autoRun, crossRun};
-ghost use Rattle.unstructured.specs.Pairs.{thePair, thePoint, pointIn, pointsIn, Holds, Readable, Held, firstPartner, setsFor, rowAdded, filled, setsNumber};
-ghost use Rattle.unstructured.specs.Batches.{UsableRun, TabledRun, Rooms, Listed, inside, keptBelow, picked, numberedPair, pairPlaced, pairValues, placedTo, valueNumbers, placesAdded};
-
-// The stride of positions and values; left out it is the number of points.
-pub enum Stride {
-    Given(usize),
-    Omitted,
-}
-
-pub struct PointSet {
-    pub n_points: usize,
-    pub stride: Stride,
-}
+ghost use Rattle.unstructured_points.specs.Readings.{pointsOf, thePoint};
+ghost use Rattle.unstructured_points.specs.Sets.{setsFor};
+ghost use Rattle.unstructured.specs.Readings.{setsRun, autoRun, crossRun};
+ghost use Rattle.unstructured.specs.Pairs.{thePair, pointIn, pointsIn, Holds, Readable, Held, firstPartner, pairStep, rowAdded, filled};
+ghost use Rattle.unstructured.specs.Batches.{UsableRun, TabledRun, Rooms, Listed, inside, keptBelow, picked, numberedPair, pairPlaced, pairValues, placedTo, weightsTo, valueNumbers, placesAdded};
 
 // What a pair yields: a bin, three component values and a weight, or nothing.
 pub enum Pair {
     Kept(usize, f64, f64, f64, f64),
     Dropped,
-}
-
-struct Point {
-    c0: f64,
-    c1: f64,
-    c2: f64,
-    rd: Datum,
 }
 
 // What is the same for each pair of a run.
@@ -66,90 +51,6 @@ struct Setup {
 struct Tables {
     edges: Table,
     values: Table,
-}
-
-// ---- refusals
-
-fn stride_of(set: PointSet) -> usize
-    ensures { λ r. ⌜ r ≡ strideOr (set .«n_points») (strideOf (set .stride)) ⌝ }
-{
-    let stride = set.stride;
-    match stride {
-        Stride::Given(k) => k,
-        Stride::Omitted => set.n_points,
-    }
-}
-
-fn points_over(set: PointSet) -> bool
-    ensures { λ r. ⌜ r ≡ overPoints (pointsOf set [] [] []) ⌝ }
-{
-    if set.n_points > 4096 {
-        return true;
-    }
-    stride_of(set) > 8192
-}
-
-fn points_refusal(positions: &[f64], values: &[f64], weights: &[f64], set: PointSet) -> u32
-    ensures { λ r. ⌜ r ≡ refusal (pointRules (pointsOf set (now (positions .entry)) (now (values .entry)) (now (weights .entry)))) ⌝ }
-{
-    let stride = stride_of(set);
-    if set.n_points == 0 {
-        return 1;
-    }
-    if set.n_points > stride {
-        return 2;
-    }
-    if values.len() != positions.len() {
-        return 3;
-    }
-    if positions.len() % stride != 0 {
-        return 4;
-    }
-    if positions.len() / stride != 3 {
-        return 5;
-    }
-    if weights.len() != set.n_points {
-        return 6;
-    }
-    0
-}
-
-// ---- of a run's sets, a before b; in auto the two are one
-
-fn sets_over(auto: bool, a: PointSet, b: PointSet) -> bool
-    ensures { λ r. ⌜ r ≡ overSets (setsFor auto (pointsOf a [] [] []) (pointsOf b [] [] [])) ⌝ }
-{
-    if points_over(a) {
-        return true;
-    }
-    if auto {
-        return false;
-    }
-    points_over(b)
-}
-
-fn sets_refusal(
-    auto: bool,
-    a_positions: &[f64],
-    a_values: &[f64],
-    a_weights: &[f64],
-    a: PointSet,
-    b_positions: &[f64],
-    b_values: &[f64],
-    b_weights: &[f64],
-    b: PointSet,
-) -> u32
-    ensures { λ r. ⌜ r ≡ refusal (setRules (setsFor auto (pointsOf a (now («a_positions» .entry)) (now («a_values» .entry)) (now («a_weights» .entry)))
-        (pointsOf b (now («b_positions» .entry)) (now («b_values» .entry)) (now («b_weights» .entry))))) ⌝ }
-{
-    let number = points_refusal(a_positions, a_values, a_weights, a);
-    if number != 0 {
-        return number;
-    }
-    if auto {
-        return 0;
-    }
-    points_refusal(b_positions, b_values, b_weights, b)
 }
 
 // ---- pairs
@@ -170,15 +71,6 @@ fn point_at(positions: &[f64], values: &[f64], weights: &[f64], stride: usize, i
         c2: positions[2 * stride + i],
         rd,
     }
-}
-
-fn squared_diff_norm(a: Point, b: Point) -> f64
-    ensures { λ r. ⌜ r ≡ squaredDiffNorm (thePoint a) (thePoint b) ⌝ }
-{
-    let d0 = b.c0 - a.c0;
-    let d1 = b.c1 - a.c1;
-    let d2 = b.c2 - a.c2;
-    d0 * d0 + (d1 * d1 + d2 * d2)
 }
 
 // One of n bins.
@@ -249,7 +141,7 @@ fn distances(
     let mut e = 0;
     while e < m {
         let b = point_at(positions, values, weights, stride, j + e);
-        d[e] = squared_diff_norm(a, b);
+        d[e] = unstructured_points::squared_diff_norm(a, b);
         e += 1;
     }
 }
@@ -307,7 +199,7 @@ fn pair_values(
     }
 }
 
-// The numbers of the values' bins, which a histogram has. d and room are room.
+// The numbers of the values' bins, which a histogram has. d is room.
 fn value_bins(
     setup: Setup,
     value_edges: &[f64],
@@ -322,13 +214,12 @@ fn value_bins(
     m: usize,
     places: &[usize],
     d: &mut [f64],
-    room: &mut [f64],
     found: &mut [usize],
 )
     requires { ⌜ TabledValues (setup .reducer) (now «value_edges») table ⌝ }
     requires { ⌜ Readable (now positions) (now values) (now weights) (j + m) stride ⌝ }
     requires { ⌜ Listed m (now places) ⌝ }
-    requires { ⌜ (length (now d) ≡ length (now places)) × (length (now room) ≡ length (now places)) × (length (now found) ≡ length (now places)) ⌝ }
+    requires { ⌜ (length (now d) ≡ length (now places)) × (length (now found) ≡ length (now places)) ⌝ }
     ensures { λ _. ⌜ now (found .exit) ≡ valueNumbers (setup .reducer) (now («value_edges» .entry))
         (pairValues (thePoint a) (pointIn (now (positions .entry)) (now (values .entry)) (now (weights .entry)) stride) j (setup .op) (now (places .entry))) (now (found .entry)) ⌝ }
 {
@@ -350,8 +241,7 @@ fn value_bins(
                 places,
                 &mut *d,
             );
-            edge_table::bins_of(edges, value_edges, hints, table, &*d, room, &mut *found);
-            edge_table::drop_outside(table, &*d, &mut *found);
+            edge_table::bins_of(edges, value_edges, hints, table, &*d, &mut *found);
         }
     }
 }
@@ -463,7 +353,108 @@ fn add_listed(
     }
 }
 
-// The pairs of a with the listed points, whose distances are in d. d, room, found and value_found are room.
+// The weights of a histogram's pairs: each is a's times its second point's. What is past the states or the values' bins has no room.
+fn add_weights(
+    edges: BuiltEdges,
+    value_len: usize,
+    n_states: usize,
+    weight: f64,
+    weights: &[f64],
+    j: usize,
+    m: usize,
+    places: &[usize],
+    found: &[usize],
+    value_found: &[usize],
+    scratch: &mut [f64],
+)
+    requires { ⌜ (j + m ≤ 4096) × (j + m ≤ length (now weights)) × Listed m (now places) ⌝ }
+    requires { ⌜ (length (now found) ≡ length (now places)) × (length (now «value_found») ≡ length (now places)) ⌝ }
+    ensures { λ _. ⌜ now (scratch .exit) ≡ weightsTo edges «value_len» «n_states» weight (now (weights .entry)) j
+        (now (places .entry)) (now (found .entry)) (now («value_found» .entry)) (length (now (places .entry))) (now (scratch .entry)) ⌝ }
+{
+    let mut q = 0;
+    while q < places.len() {
+        let datum = Datum {
+            c0: 0.0,
+            c1: 0.0,
+            c2: 0.0,
+            weight: weight * weights[j + places[q]],
+        };
+        reducer::consume_at(
+            Reducer::ComponentSumHistogram(edges),
+            value_len,
+            BinIndex::At(value_found[q]),
+            n_states,
+            found[q],
+            datum,
+            &mut *scratch,
+        );
+        q += 1;
+    }
+}
+
+// The pairs of a with the listed points; a histogram's by their weights alone.
+fn add_found(
+    setup: Setup,
+    value_len: usize,
+    a: Point,
+    positions: &[f64],
+    values: &[f64],
+    weights: &[f64],
+    stride: usize,
+    j: usize,
+    m: usize,
+    places: &[usize],
+    found: &[usize],
+    value_found: &[usize],
+    scratch: &mut [f64],
+)
+    requires { ⌜ Readable (now positions) (now values) (now weights) (j + m) stride ⌝ }
+    requires { ⌜ Listed m (now places) ⌝ }
+    requires { ⌜ (length (now found) ≡ length (now places)) × (length (now «value_found») ≡ length (now places)) ⌝ }
+    ensures { λ _. ⌜ now (scratch .exit) ≡ placedTo (thePoint a) (pointIn (now (positions .entry)) (now (values .entry)) (now (weights .entry)) stride) j setup «value_len»
+        (now (places .entry)) (now (found .entry)) (now («value_found» .entry)) (length (now (places .entry))) (now (scratch .entry)) ⌝ }
+{
+    let kind = setup.reducer;
+    match kind {
+        Reducer::Comp0Mean => {}
+        Reducer::ComponentSumMean => {}
+        Reducer::ComponentSumHistogram(edges) => {
+            let first = a.rd;
+            add_weights(
+                edges,
+                value_len,
+                setup.n_states,
+                first.weight,
+                weights,
+                j,
+                m,
+                places,
+                found,
+                value_found,
+                scratch,
+            );
+            return;
+        }
+    }
+    add_listed(
+        setup,
+        value_len,
+        a,
+        positions,
+        values,
+        weights,
+        stride,
+        j,
+        m,
+        places,
+        found,
+        value_found,
+        scratch,
+    );
+}
+
+// The pairs of a with the listed points, whose distances are in d. d, found and value_found are room.
 fn add_places(
     setup: Setup,
     list: &[f64],
@@ -480,7 +471,6 @@ fn add_places(
     m: usize,
     places: &[usize],
     d: &mut [f64],
-    room: &mut [f64],
     found: &mut [usize],
     value_found: &mut [usize],
     scratch: &mut [f64],
@@ -488,14 +478,14 @@ fn add_places(
     requires { ⌜ TabledRun setup (now list) (now «value_edges») tables ⌝ }
     requires { ⌜ Readable (now positions) (now values) (now weights) (j + m) stride ⌝ }
     requires { ⌜ Listed m (now places) ⌝ }
-    requires { ⌜ (length (now d) ≡ length (now places)) × (length (now room) ≡ length (now places)) × (length (now found) ≡ length (now places)) × (length (now «value_found») ≡ length (now places)) ⌝ }
-    ensures { λ _. ⌜ now (scratch .exit) ≡ placesAdded setup (now (list .entry)) (now («value_edges» .entry)) (now (hints .entry)) (tables .edges) (thePoint a)
+    requires { ⌜ (length (now d) ≡ length (now places)) × (length (now found) ≡ length (now places)) × (length (now «value_found») ≡ length (now places)) ⌝ }
+    ensures { λ _. ⌜ now (scratch .exit) ≡ placesAdded setup (now (list .entry)) (now («value_edges» .entry)) (thePoint a)
         (pointIn (now (positions .entry)) (now (values .entry)) (now (weights .entry)) stride) j (now (places .entry)) (now (d .entry)) (now («value_found» .entry)) (now (scratch .entry)) ⌝ }
 {
     let edges = setup.edges;
     let table = tables.edges;
     let value_table = tables.values;
-    edge_table::bins_of(edges, list, hints, table, &*d, &mut *room, &mut *found);
+    edge_table::bins_of(edges, list, hints, table, &*d, &mut *found);
     value_bins(
         setup,
         value_edges,
@@ -510,10 +500,9 @@ fn add_places(
         m,
         places,
         d,
-        room,
         &mut *value_found,
     );
-    add_listed(
+    add_found(
         setup,
         value_edges.len(),
         a,
@@ -553,7 +542,6 @@ fn add_batch(
     j: usize,
     m: usize,
     d: &mut [f64],
-    room: &mut [f64],
     places: &mut [usize],
     found: &mut [usize],
     value_found: &mut [usize],
@@ -561,7 +549,7 @@ fn add_batch(
 )
     requires { ⌜ TabledRun setup (now list) (now «value_edges») tables ⌝ }
     requires { ⌜ Readable (now positions) (now values) (now weights) (j + m) stride ⌝ }
-    requires { ⌜ Rooms m (now d) (now room) (now places) (now found) (now «value_found») ⌝ }
+    requires { ⌜ Rooms m (now d) (now places) (now found) (now «value_found») ⌝ }
     ensures { λ _. ⌜ now (scratch .exit) ≡ rowAdded setup (now (list .entry)) (now («value_edges» .entry)) (thePoint a)
         (pointIn (now (positions .entry)) (now (values .entry)) (now (weights .entry)) stride) j m (now (scratch .entry)) ⌝ }
 {
@@ -584,7 +572,6 @@ fn add_batch(
         m,
         &places[..c],
         &mut d[..c],
-        &mut room[..c],
         &mut found[..c],
         &mut value_found[..c],
         scratch,
@@ -607,7 +594,6 @@ fn add_batches(
     from: usize,
     n: usize,
     d: &mut [f64],
-    room: &mut [f64],
     places: &mut [usize],
     found: &mut [usize],
     value_found: &mut [usize],
@@ -615,7 +601,7 @@ fn add_batches(
 )
     requires { ⌜ TabledRun setup (now list) (now «value_edges») tables ⌝ }
     requires { ⌜ Readable (now positions) (now values) (now weights) n stride ⌝ }
-    requires { ⌜ (0 < length (now d)) × Rooms (length (now d)) (now d) (now room) (now places) (now found) (now «value_found») ⌝ }
+    requires { ⌜ (0 < length (now d)) × Rooms (length (now d)) (now d) (now places) (now found) (now «value_found») ⌝ }
     ensures { λ _. ⌜ now (scratch .exit) ≡ rowAdded setup (now (list .entry)) (now («value_edges» .entry)) (thePoint a)
         (pointIn (now (positions .entry)) (now (values .entry)) (now (weights .entry)) stride) from (n - from) (now (scratch .entry)) ⌝ }
 {
@@ -638,7 +624,6 @@ fn add_batches(
             j,
             m,
             &mut *d,
-            &mut *room,
             &mut *places,
             &mut *found,
             &mut *value_found,
@@ -676,7 +661,6 @@ fn fill_batches(
     b_stride: usize,
     b_n: usize,
     d: &mut [f64],
-    room: &mut [f64],
     places: &mut [usize],
     found: &mut [usize],
     value_found: &mut [usize],
@@ -686,7 +670,7 @@ fn fill_batches(
     requires { ⌜ Readable (now «a_positions») (now «a_values») (now «a_weights») «a_n» «a_stride» ⌝ }
     requires { ⌜ Readable (now «b_positions») (now «b_values») (now «b_weights») «b_n» «b_stride» ⌝ }
     requires { ⌜ (auto ≡ true → (pointIn (now «a_positions») (now «a_values») (now «a_weights») «a_stride» ≡ pointIn (now «b_positions») (now «b_values») (now «b_weights») «b_stride») × («a_n» ≡ «b_n»)) ⌝ }
-    requires { ⌜ (0 < length (now d)) × Rooms (length (now d)) (now d) (now room) (now places) (now found) (now «value_found») ⌝ }
+    requires { ⌜ (0 < length (now d)) × Rooms (length (now d)) (now d) (now places) (now found) (now «value_found») ⌝ }
     ensures { λ _. ⌜ now (scratch .exit) ≡ filled setup (now (list .entry)) (now («value_edges» .entry)) auto
         (pointsIn (now («a_positions» .entry)) (now («a_values» .entry)) (now («a_weights» .entry)) «a_stride» «a_n»)
         (pointsIn (now («b_positions» .entry)) (now («b_values» .entry)) (now («b_weights» .entry)) «b_stride» «b_n») (now (scratch .entry)) ⌝ }
@@ -710,7 +694,6 @@ fn fill_batches(
             start,
             b_n,
             &mut *d,
-            &mut *room,
             &mut *places,
             &mut *found,
             &mut *value_found,
@@ -775,7 +758,6 @@ fn fill_tabled(
     hints: &mut [u8],
     value_hints: &mut [u8],
     d: &mut [f64],
-    room: &mut [f64],
     places: &mut [usize],
     found: &mut [usize],
     value_found: &mut [usize],
@@ -785,7 +767,7 @@ fn fill_tabled(
     requires { ⌜ Readable (now «a_positions») (now «a_values») (now «a_weights») «a_n» «a_stride» ⌝ }
     requires { ⌜ Readable (now «b_positions») (now «b_values») (now «b_weights») «b_n» «b_stride» ⌝ }
     requires { ⌜ (auto ≡ true → (pointIn (now «a_positions») (now «a_values») (now «a_weights») «a_stride» ≡ pointIn (now «b_positions») (now «b_values») (now «b_weights») «b_stride») × («a_n» ≡ «b_n»)) ⌝ }
-    requires { ⌜ (0 < length (now d)) × Rooms (length (now d)) (now d) (now room) (now places) (now found) (now «value_found») ⌝ }
+    requires { ⌜ (0 < length (now d)) × Rooms (length (now d)) (now d) (now places) (now found) (now «value_found») ⌝ }
     ensures { λ _. ⌜ now (scratch .exit) ≡ filled setup (now (list .entry)) (now («value_edges» .entry)) auto
         (pointsIn (now («a_positions» .entry)) (now («a_values» .entry)) (now («a_weights» .entry)) «a_stride» «a_n»)
         (pointsIn (now («b_positions» .entry)) (now («b_values» .entry)) (now («b_weights» .entry)) «b_stride» «b_n») (now (scratch .entry)) ⌝ }
@@ -816,7 +798,6 @@ fn fill_tabled(
         b_stride,
         b_n,
         &mut *d,
-        &mut *room,
         &mut *places,
         &mut *found,
         &mut *value_found,
@@ -824,7 +805,65 @@ fn fill_tabled(
     );
 }
 
-// Few second points: little room, and no hints.
+// ---- few second points: no hints, no room
+
+// The pair of a and b.
+fn add_one(
+    setup: Setup,
+    list: &[f64],
+    value_edges: &[f64],
+    table: Table,
+    a: Point,
+    b: Point,
+    scratch: &mut [f64],
+)
+    requires { ⌜ Tabled (setup .edges) (now list) table ⌝ }
+    ensures { λ _. ⌜ now (scratch .exit) ≡ pairStep setup (now (list .entry)) (now («value_edges» .entry)) (thePoint a, thePoint b) (now (scratch .entry)) ⌝ }
+{
+    let edges = setup.edges;
+    let distance = unstructured_points::squared_diff_norm(a, b);
+    match edge_table::bin_of(edges, list, table, distance) {
+        BinIndex::At(bin) => {
+            let op = setup.op;
+            let kind = setup.reducer;
+            let first = a.rd;
+            let second = b.rd;
+            let datum = reducer::datum_of(op, first, second);
+            reducer::consume(kind, value_edges, setup.n_states, bin, datum, scratch)
+        }
+        BinIndex::None => {}
+    }
+}
+
+// The pairs of a with the points from `from` on.
+fn add_row(
+    setup: Setup,
+    list: &[f64],
+    value_edges: &[f64],
+    table: Table,
+    a: Point,
+    positions: &[f64],
+    values: &[f64],
+    weights: &[f64],
+    stride: usize,
+    from: usize,
+    n: usize,
+    scratch: &mut [f64],
+)
+    requires { ⌜ Tabled (setup .edges) (now list) table ⌝ }
+    requires { ⌜ Readable (now positions) (now values) (now weights) n stride ⌝ }
+    ensures { λ _. ⌜ now (scratch .exit) ≡ rowAdded setup (now (list .entry)) (now («value_edges» .entry)) (thePoint a)
+        (pointIn (now (positions .entry)) (now (values .entry)) (now (weights .entry)) stride) from (n - from) (now (scratch .entry)) ⌝ }
+{
+    let mut j = from;
+    while j < n {
+        let b = point_at(positions, values, weights, stride, j);
+        add_one(setup, list, value_edges, table, a, b, &mut *scratch);
+        j += 1;
+    }
+}
+
+// All pairs of the run, one after the other.
 fn fill_few(
     auto: bool,
     setup: Setup,
@@ -850,39 +889,28 @@ fn fill_few(
         (pointsIn (now («a_positions» .entry)) (now («a_values» .entry)) (now («a_weights» .entry)) «a_stride» «a_n»)
         (pointsIn (now («b_positions» .entry)) (now («b_values» .entry)) (now («b_weights» .entry)) «b_stride» «b_n») (now (scratch .entry)) ⌝ }
 {
-    let h = 0;
-    let value_h = 0;
-    let mut hints = [0u8; 1];
-    let mut value_hints = [0u8; 1];
-    let mut d = [0.0f64; 16];
-    let mut room = [0.0f64; 16];
-    let mut places = [0usize; 16];
-    let mut found = [0usize; 16];
-    let mut value_found = [0usize; 16];
-    fill_tabled(
-        auto,
-        setup,
-        list,
-        value_edges,
-        a_positions,
-        a_values,
-        a_weights,
-        a_stride,
-        a_n,
-        b_positions,
-        b_values,
-        b_weights,
-        b_stride,
-        b_n,
-        &mut hints[..h],
-        &mut value_hints[..value_h],
-        &mut d,
-        &mut room,
-        &mut places,
-        &mut found,
-        &mut value_found,
-        scratch,
-    );
+    let edges = setup.edges;
+    let table = edge_table::table_of(edges, list, 0.0);
+    let mut i = 0;
+    while i < a_n {
+        let a = point_at(a_positions, a_values, a_weights, a_stride, i);
+        let start = first_partner(auto, i);
+        add_row(
+            setup,
+            list,
+            value_edges,
+            table,
+            a,
+            b_positions,
+            b_values,
+            b_weights,
+            b_stride,
+            start,
+            b_n,
+            &mut *scratch,
+        );
+        i += 1;
+    }
 }
 
 // Many second points.
@@ -918,7 +946,6 @@ fn fill_many(
     let mut hints = [0u8; 4096];
     let mut value_hints = [0u8; 4096];
     let mut d = [0.0f64; 256];
-    let mut room = [0.0f64; 256];
     let mut places = [0usize; 256];
     let mut found = [0usize; 256];
     let mut value_found = [0usize; 256];
@@ -940,7 +967,6 @@ fn fill_many(
         &mut hints[..h],
         &mut value_hints[..value_h],
         &mut d,
-        &mut room,
         &mut places,
         &mut found,
         &mut value_found,
@@ -1355,8 +1381,8 @@ fn drive(
         reducer,
         n_states,
     };
-    let a_stride = stride_of(a);
-    let b_stride = stride_of(b);
+    let a_stride = unstructured_points::stride_of(a);
+    let b_stride = unstructured_points::stride_of(b);
     let used = n_states * state_size;
     run_sized(
         auto,
@@ -1376,43 +1402,6 @@ fn drive(
         used,
         pack,
     );
-}
-
-// The first broken rule of a run.
-fn run_refusal(
-    auto: bool,
-    a_positions: &[f64],
-    a_values: &[f64],
-    a_weights: &[f64],
-    a: PointSet,
-    b_positions: &[f64],
-    b_values: &[f64],
-    b_weights: &[f64],
-    b: PointSet,
-    edges: Edges,
-    list: &[f64],
-    kind: Kind,
-    value_edges: &[f64],
-    shape: Shape,
-    len: usize,
-) -> u32
-    ensures { λ r. ⌜ r ≡ setsNumber (setsFor auto (pointsOf a (now («a_positions» .entry)) (now («a_values» .entry)) (now («a_weights» .entry)))
-        (pointsOf b (now («b_positions» .entry)) (now («b_values» .entry)) (now («b_weights» .entry))))
-        (edgesOf edges (now (list .entry))) (kindOf kind (now («value_edges» .entry))) shape len ⌝ }
-{
-    let over = sets_over(auto, a, b);
-    let number = sets_refusal(
-        auto,
-        a_positions,
-        a_values,
-        a_weights,
-        a,
-        b_positions,
-        b_values,
-        b_weights,
-        b,
-    );
-    parallel_serial::run_refusal(over, number, 0, edges, list, kind, value_edges, shape, len)
 }
 
 fn run(
@@ -1441,7 +1430,7 @@ fn run(
         (pointsOf b (now («b_positions» .entry)) (now («b_values» .entry)) (now («b_weights» .entry))))
         edges (now (list .entry)) kind (now («value_edges» .entry)) op shape) (now (pack .entry)) ⌝ }
 {
-    let number = run_refusal(
+    let number = unstructured_points::run_refusal(
         auto,
         a_positions,
         a_values,

@@ -2,7 +2,8 @@ use mathlib.Core.Path.{sym, _∙_}
 use native.Mathlib.Omega.{arith}
 use lib.ListN.{take}
 use lib.Seq.{length-take-le}
-use Rattle.unstructured.specs.Pairs.{thePoint, pointIn}
+use Rattle.unstructured_points.specs.Readings.{thePoint}
+use Rattle.unstructured.specs.Pairs.{pointIn}
 use Rattle.unstructured.proofs.Batches.{kept-listed, batch-row}
 use borrow.Author.Needs.{needs}
 use Rattle.unstructured.proofs.add_batch.Statement.{statement}
@@ -13,108 +14,91 @@ use Rattle.unstructured.proofs.add_places.Reads as add-places-reads
 use Rattle.unstructured.proofs.distances.Reads as distances-reads
 use Rattle.unstructured.proofs.list_inside.Reads as list-inside-reads
 
--- src/lib.rt:496:5
+-- src/lib.rt:557:5
 distances-requires : tie.Need-distances-requires
 distances-requires c κs = search needs
 
--- src/lib.rt:497:9
+-- src/lib.rt:558:9
 list-inside-requires : tie.Need-list-inside-requires
 list-inside-requires c κs = search needs
 
--- src/lib.rt:512:9
+-- src/lib.rt:573:9
 slice-reshare-prefix-add-places : tie.Need-slice-reshare-prefix-add-places
-slice-reshare-prefix-add-places c = omega (arith, c .before .before .before .before .before .before .before .before .before .before .before .before .before .before .before .before .before .before .before .before .before .before .before .before .before .pre .1 .1, c .before .before .before .before .list-inside .ensures .0, c .before .before .before .before .list-inside .kept)
+slice-reshare-prefix-add-places c = omega (arith, c .before .before .before .before .before .before .before .before .before .before .before .before .before .before .before .before .before .before .before .before .before .before .before .before .pre .1 .1, c .before .before .before .before .list-inside .ensures .0, c .before .before .before .before .list-inside .kept, c .before .before .before .before .before .before .before .before .before .distances .kept)
 
--- src/lib.rt:512:9
+-- src/lib.rt:573:9
 slice-aggregate-add-places : tie.Need-slice-aggregate-add-places
-slice-aggregate-add-places c = sym (length-take-le _ _ (omega (arith, c .before .before .before .before .before .before .before .before .before .before .before .before .before .before .before .before .before .before .before .before .before .before .before .before .before .before .pre .1 .1, c .before .before .before .before .before .list-inside .ensures .0, c .before .before .before .before .before .list-inside .kept)))
+slice-aggregate-add-places c = sym (length-take-le _ _ (omega (arith, c .before .before .before .before .before .before .before .before .before .before .before .before .before .before .before .before .before .before .before .before .before .before .before .before .before .pre .1 .1, c .before .before .before .before .before .list-inside .ensures .0, c .before .before .before .before .before .list-inside .kept, c .before .before .before .before .before .before .before .before .before .before .distances .kept)))
 
--- src/lib.rt:513:9
+-- src/lib.rt:574:9
 slice-relend-prefix-add-places : tie.Need-slice-relend-prefix-add-places
-slice-relend-prefix-add-places c = omega (arith, c .before .before .before .before .before .before .before .before .before .before .before .before .before .before .before .before .before .before .before .before .before .before .before .before .before .before .pre .1 .1, c .before .before .before .before .before .list-inside .ensures .0, c .before .before .before .before .before .list-inside .kept, c .before .before .before .before .before .before .before .before .before .before .distances .kept)
+slice-relend-prefix-add-places c = omega (arith, c .before .before .before .before .before .before .before .before .before .before .before .before .before .before .before .before .before .before .before .before .before .before .before .before .before .pre .1 .1, c .before .before .before .before .before .list-inside .ensures .0, c .before .before .before .before .before .list-inside .kept, c .before .before .before .before .before .before .before .before .before .before .distances .kept)
 
--- src/lib.rt:513:9
+-- src/lib.rt:574:9
 slice-aggregate-add-places-2 : tie.Need-slice-aggregate-add-places-2
-slice-aggregate-add-places-2 c = sym (length-take-le _ _ (omega (arith, c .before .before .before .before .before .before .before .before .before .before .before .before .before .before .before .before .before .before .before .before .before .before .before .before .before .before .before .pre .1 .1, c .before .before .before .before .before .before .list-inside .ensures .0, c .before .before .before .before .before .before .list-inside .kept, c .before .before .before .before .before .before .before .before .before .before .before .distances .kept)))
+slice-aggregate-add-places-2 c = sym (length-take-le _ _ (omega (arith, c .before .before .before .before .before .before .before .before .before .before .before .before .before .before .before .before .before .before .before .before .before .before .before .before .before .before .pre .1 .1, c .before .before .before .before .before .before .list-inside .ensures .0, c .before .before .before .before .before .before .list-inside .kept, c .before .before .before .before .before .before .before .before .before .before .before .distances .kept)))
 
--- src/lib.rt:514:9
+-- src/lib.rt:575:9
 slice-relend-prefix-add-places-2 : tie.Need-slice-relend-prefix-add-places-2
-slice-relend-prefix-add-places-2 c = omega (arith, c .before .before .before .before .before .before .before .before .before .before .before .before .before .before .before .before .before .before .before .before .before .before .before .before .before .before .before .pre .1 .1, c .before .before .before .before .before .before .list-inside .ensures .0)
+slice-relend-prefix-add-places-2 c = omega (arith, c .before .before .before .before .before .before .before .before .before .before .before .before .before .before .before .before .before .before .before .before .before .before .before .before .before .before .pre .1 .1, c .before .before .before .before .before .before .list-inside .ensures .0, c .before .before .before .before .before .before .list-inside .kept, c .before .before .before .before .before .before .before .before .before .before .before .distances .kept)
 
--- src/lib.rt:514:9
+-- src/lib.rt:575:9
 slice-aggregate-add-places-3 : tie.Need-slice-aggregate-add-places-3
-slice-aggregate-add-places-3 c = sym (length-take-le _ _ (omega (arith, c .before .before .before .before .before .before .before .before .before .before .before .before .before .before .before .before .before .before .before .before .before .before .before .before .before .before .before .before .pre .1 .1, c .before .before .before .before .before .before .before .list-inside .ensures .0)))
+slice-aggregate-add-places-3 c = sym (length-take-le _ _ (omega (arith, c .before .before .before .before .before .before .before .before .before .before .before .before .before .before .before .before .before .before .before .before .before .before .before .before .before .before .before .pre .1 .1, c .before .before .before .before .before .before .before .list-inside .ensures .0, c .before .before .before .before .before .before .before .list-inside .kept, c .before .before .before .before .before .before .before .before .before .before .before .before .distances .kept)))
 
--- src/lib.rt:515:9
+-- src/lib.rt:576:9
 slice-relend-prefix-add-places-3 : tie.Need-slice-relend-prefix-add-places-3
-slice-relend-prefix-add-places-3 c = omega (arith, c .before .before .before .before .before .before .before .before .before .before .before .before .before .before .before .before .before .before .before .before .before .before .before .before .before .before .before .before .pre .1 .1, c .before .before .before .before .before .before .before .list-inside .ensures .0)
+slice-relend-prefix-add-places-3 c = omega (arith, c .before .before .before .before .before .before .before .before .before .before .before .before .before .before .before .before .before .before .before .before .before .before .before .before .before .before .before .pre .1 .1, c .before .before .before .before .before .before .before .list-inside .ensures .0, c .before .before .before .before .before .before .before .list-inside .kept, c .before .before .before .before .before .before .before .before .before .before .before .before .distances .kept)
 
--- src/lib.rt:515:9
+-- src/lib.rt:576:9
 slice-aggregate-add-places-4 : tie.Need-slice-aggregate-add-places-4
-slice-aggregate-add-places-4 c = sym (length-take-le _ _ (omega (arith, c .before .before .before .before .before .before .before .before .before .before .before .before .before .before .before .before .before .before .before .before .before .before .before .before .before .before .before .before .before .pre .1 .1, c .before .before .before .before .before .before .before .before .list-inside .ensures .0)))
+slice-aggregate-add-places-4 c = sym (length-take-le _ _ (omega (arith, c .before .before .before .before .before .before .before .before .before .before .before .before .before .before .before .before .before .before .before .before .before .before .before .before .before .before .before .before .pre .1 .1, c .before .before .before .before .before .before .before .before .list-inside .ensures .0, c .before .before .before .before .before .before .before .before .list-inside .kept, c .before .before .before .before .before .before .before .before .before .before .before .before .before .distances .kept)))
 
--- src/lib.rt:516:9
-slice-relend-prefix-add-places-4 : tie.Need-slice-relend-prefix-add-places-4
-slice-relend-prefix-add-places-4 c = omega (arith, c .before .before .before .before .before .before .before .before .before .before .before .before .before .before .before .before .before .before .before .before .before .before .before .before .before .before .before .before .before .pre .1 .1, c .before .before .before .before .before .before .before .before .list-inside .ensures .0)
-
--- src/lib.rt:516:9
-slice-aggregate-add-places-5 : tie.Need-slice-aggregate-add-places-5
-slice-aggregate-add-places-5 c = sym (length-take-le _ _ (omega (arith, c .before .before .before .before .before .before .before .before .before .before .before .before .before .before .before .before .before .before .before .before .before .before .before .before .before .before .before .before .before .before .pre .1 .1, c .before .before .before .before .before .before .before .before .before .list-inside .ensures .0)))
-
--- src/lib.rt:498:5
+-- src/lib.rt:559:5
 add-places-requires : tie.Need-add-places-requires
-add-places-requires c κs = let s = c .before .before .before .before .before .before .before .before .before .before .before .before .before .before .before .before .before .before .before .before .before .before .before .before .before .before .before .before .before .before .before in
+add-places-requires c κs = let s = c .before .before .before .before .before .before .before .before .before .before .before .before .before .before .before .before .before .before .before .before .before .before .before .before .before .before .before .before .before in
     let x = s .args in
-    let i = c .before .before .before .before .before .before .before .before .before .before .list-inside in
-    let d = c .before .before .before .before .before .before .before .before .before .before .before .before .before .before .before .distances in
+    let i = c .before .before .before .before .before .before .before .before .before .list-inside in
+    let d = c .before .before .before .before .before .before .before .before .before .before .before .before .before .before .distances in
     let k = i .result in
-    let l = sym (length-take-le k (i .last .1 .1 .1 .0) (omega (arith, c .before .before .before .before .before .before .before .before .before .before .before .before .before .before .before .before .before .before .before .before .before .before .before .before .before .before .before .before .before .before .before .pre .1 .1, c .before .before .before .before .before .before .before .before .before .before .list-inside .ensures .0, c .before .before .before .before .before .before .before .before .before .before .list-inside .kept))) in (
+    let l = sym (length-take-le k (i .last .1 .1 .1 .0) (omega (arith, c .before .before .before .before .before .before .before .before .before .before .before .before .before .before .before .before .before .before .before .before .before .before .before .before .before .before .before .before .before .pre .1 .1, c .before .before .before .before .before .before .before .before .before .list-inside .ensures .0, c .before .before .before .before .before .before .before .before .before .list-inside .kept, c .before .before .before .before .before .before .before .before .before .before .before .before .before .before .distances .kept))) in (
       s .pre .0,
       (
         s .pre .1 .0,
         (
-          kept-listed (x .tables .edges .first) (x .tables .edges .last) (d .last .1 .1 .1 .1 .1 .1 .1 .0) (x .m) k (i .last .1 .1 .1 .0) (i .ensures .0) (omega (arith, c .before .before .before .before .before .before .before .before .before .before .before .before .before .before .before .before .before .before .before .before .before .before .before .before .before .before .before .before .before .before .before .pre .1 .1, c .before .before .before .before .before .before .before .before .before .before .list-inside .ensures .0, c .before .before .before .before .before .before .before .before .before .before .list-inside .kept)) (i .ensures .1),
-          (
-            length-take-le k (i .last .1 .1 .0) (omega (arith, c .before .before .before .before .before .before .before .before .before .before .before .before .before .before .before .before .before .before .before .before .before .before .before .before .before .before .before .before .before .before .before .pre .1 .1, c .before .before .before .before .before .before .before .before .before .before .list-inside .ensures .0, c .before .before .before .before .before .before .before .before .before .before .list-inside .kept, c .before .before .before .before .before .before .before .before .before .before .before .before .before .before .before .distances .kept)) ∙ l,
-            length-take-le k (x .room .now) (omega (arith, c .before .before .before .before .before .before .before .before .before .before .before .before .before .before .before .before .before .before .before .before .before .before .before .before .before .before .before .before .before .before .before .pre .1 .1, c .before .before .before .before .before .before .before .before .before .before .list-inside .ensures .0)) ∙ l,
-            length-take-le k (x .found .now) (omega (arith, c .before .before .before .before .before .before .before .before .before .before .before .before .before .before .before .before .before .before .before .before .before .before .before .before .before .before .before .before .before .before .before .pre .1 .1, c .before .before .before .before .before .before .before .before .before .before .list-inside .ensures .0)) ∙ l,
-            length-take-le k (x .value-found .now) (omega (arith, c .before .before .before .before .before .before .before .before .before .before .before .before .before .before .before .before .before .before .before .before .before .before .before .before .before .before .before .before .before .before .before .pre .1 .1, c .before .before .before .before .before .before .before .before .before .before .list-inside .ensures .0)) ∙ l,
-          ),
+          kept-listed (x .tables .edges .first) (x .tables .edges .last) (d .last .1 .1 .1 .1 .1 .1 .1 .0) (x .m) k (i .last .1 .1 .1 .0) (i .ensures .0) (omega (arith, c .before .before .before .before .before .before .before .before .before .before .before .before .before .before .before .before .before .before .before .before .before .before .before .before .before .before .before .before .before .pre .1 .1, c .before .before .before .before .before .before .before .before .before .list-inside .ensures .0, c .before .before .before .before .before .before .before .before .before .list-inside .kept, c .before .before .before .before .before .before .before .before .before .before .before .before .before .before .distances .kept)) (i .ensures .1),
+          (length-take-le k (i .last .1 .1 .0) (omega (arith, c .before .before .before .before .before .before .before .before .before .before .before .before .before .before .before .before .before .before .before .before .before .before .before .before .before .before .before .before .before .pre .1 .1, c .before .before .before .before .before .before .before .before .before .list-inside .ensures .0, c .before .before .before .before .before .before .before .before .before .list-inside .kept, c .before .before .before .before .before .before .before .before .before .before .before .before .before .before .distances .kept)) ∙ l, length-take-le k (x .found .now) (omega (arith, c .before .before .before .before .before .before .before .before .before .before .before .before .before .before .before .before .before .before .before .before .before .before .before .before .before .before .before .before .before .pre .1 .1, c .before .before .before .before .before .before .before .before .before .list-inside .ensures .0, c .before .before .before .before .before .before .before .before .before .list-inside .kept, c .before .before .before .before .before .before .before .before .before .before .before .before .before .before .distances .kept)) ∙ l, length-take-le k (x .value-found .now) (omega (arith, c .before .before .before .before .before .before .before .before .before .before .before .before .before .before .before .before .before .before .before .before .before .before .before .before .before .before .before .before .before .pre .1 .1, c .before .before .before .before .before .before .before .before .before .list-inside .ensures .0, c .before .before .before .before .before .before .before .before .before .list-inside .kept, c .before .before .before .before .before .before .before .before .before .before .before .before .before .before .distances .kept)) ∙ l),
         ),
       ),
     )
 
--- src/lib.rt:468:1
+-- src/lib.rt:530:1
 same-length : tie.Need-same-length
 same-length c = search needs
 
--- src/lib.rt:468:1
+-- src/lib.rt:530:1
 same-length-2 : tie.Need-same-length-2
 same-length-2 c = search needs
 
--- src/lib.rt:468:1
+-- src/lib.rt:530:1
 same-length-3 : tie.Need-same-length-3
 same-length-3 c = search needs
 
--- src/lib.rt:468:1
+-- src/lib.rt:530:1
 same-length-4 : tie.Need-same-length-4
 same-length-4 c = search needs
 
--- src/lib.rt:468:1
+-- src/lib.rt:530:1
 same-length-5 : tie.Need-same-length-5
 same-length-5 c = search needs
 
--- src/lib.rt:468:1
-same-length-6 : tie.Need-same-length-6
-same-length-6 c = search needs
-
--- src/lib.rt:468:1
+-- src/lib.rt:530:1
 returns : tie.Need-returns
-returns c = let s = c .before .before .before .before .before .before .before .before .before .before .before .before .before .before .before .before .before .before .before .before .before .before .before .before .before .before .before .before .before .before .before .before .before .before .before .before .before .before .before .before .before .before in
+returns c = let s = c .before .before .before .before .before .before .before .before .before .before .before .before .before .before .before .before .before .before .before .before .before .before .before .before .before .before .before .before .before .before .before .before .before .before .before .before .before .before in
     let x = s .args in
-    let i = c .before .before .before .before .before .before .before .before .before .before .before .before .before .before .before .before .before .before .before .before .before .list-inside in
-    let d = c .before .before .before .before .before .before .before .before .before .before .before .before .before .before .before .before .before .before .before .before .before .before .before .before .before .before .distances in
-    batch-row (x .setup) (x .list .now) (x .value-edges .now) (thePoint (x .a)) (pointIn (x .positions .now) (x .values .now) (x .weights .now) (x .stride)) (x .hints .now) (x .tables .edges) (s .pre .0 .edges) (d .last .1 .1 .1 .1 .1 .1 .1 .0) (x .m) (x .j) (d .ensures) (take (i .result) (x .value-found .now)) _ _ (x .scratch .now) _ (i .ensures .1) (i .ensures .2) (c .before .before .before .before .before .before .before .before .before .before .add-places .ensures)
+    let i = c .before .before .before .before .before .before .before .before .before .before .before .before .before .before .before .before .before .before .list-inside in
+    let d = c .before .before .before .before .before .before .before .before .before .before .before .before .before .before .before .before .before .before .before .before .before .before .before .distances in
+    batch-row (x .setup) (x .list .now) (x .value-edges .now) (thePoint (x .a)) (pointIn (x .positions .now) (x .values .now) (x .weights .now) (x .stride)) (x .tables .edges) (s .pre .0 .edges) (d .last .1 .1 .1 .1 .1 .1 .1 .0) (x .m) (x .j) (d .ensures) (take (i .result) (x .value-found .now)) _ _ (x .scratch .now) _ (i .ensures .1) (i .ensures .2) (c .before .before .before .before .before .before .before .before .add-places .ensures)
 
 pub add-batch-spec : {M : Type 1} → statement M
 add-batch-spec =
@@ -130,13 +114,10 @@ add-batch-spec =
     slice-aggregate-add-places-3
     slice-relend-prefix-add-places-3
     slice-aggregate-add-places-4
-    slice-relend-prefix-add-places-4
-    slice-aggregate-add-places-5
     add-places-requires
     same-length
     same-length-2
     same-length-3
     same-length-4
     same-length-5
-    same-length-6
     returns)

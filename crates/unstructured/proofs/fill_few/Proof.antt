@@ -1,72 +1,92 @@
 use borrow.Author.Needs.{needs}
+use mathlib.Core.Path.{_≡_, refl, _∙_}
+use Prim.Native.Nat.{_-_}
+use native.Mathlib.Omega.{arith}
+use lib.ListN.{length}
+use Rattle.unstructured.specs.Pairs.{pointIn, pointsIn, filled}
+use Rattle.unstructured.proofs.Loops.{fillLeft, fill-starts, fill-turn, fill-done}
+use Rattle.edge_table.specs.Tabled.{Tabled}
+use Rattle.edge_table.proofs.Lookup.{tabled}
 use Rattle.unstructured.proofs.fill_few.Statement.{statement}
 use Rattle.unstructured.proofs.fill_few.Tie as tie
 use Rattle.unstructured.proofs.fill_few.Reads as reads
 use Rattle.unstructured.proofs.fill_few.Lts as lts
-use Rattle.unstructured.proofs.fill_tabled.Reads as fill-tabled-reads
+use Rattle.edge_table.proofs.table_of.Reads as table-of-reads
+use Rattle.unstructured.proofs.add_row.Reads as add-row-reads
+use Rattle.unstructured.proofs.first_partner.Reads as first-partner-reads
+use Rattle.unstructured.proofs.point_at.Reads as point-at-reads
 
--- src/lib.rt:792:9
-array-borrow-prefix-hints : tie.Need-array-borrow-prefix-hints
-array-borrow-prefix-hints c = search needs
+abbrev Inv-loop : tie.InvT-loop
+Inv-loop auto setup list value-edges a-positions a-values a-weights a-stride a-n b-positions b-values b-weights b-stride b-n scratch₀ table i₀ scratch i =
+    (length scratch ≡ length scratch₀) × Tabled (setup .edges) list table
+    × (fillLeft setup list value-edges auto (pointIn a-positions a-values a-weights a-stride) (pointIn b-positions b-values b-weights b-stride) b-n i (a-n - i) scratch
+    ≡ filled setup list value-edges auto (pointsIn a-positions a-values a-weights a-stride a-n) (pointsIn b-positions b-values b-weights b-stride b-n) scratch₀)
 
--- src/lib.rt:792:9
-slice-aggregate-fill-tabled : tie.Need-slice-aggregate-fill-tabled
-slice-aggregate-fill-tabled c = search needs
+abbrev μ-loop : tie.MeasureT-loop
+μ-loop auto setup list value-edges a-positions a-values a-weights a-stride a-n b-positions b-values b-weights b-stride b-n scratch₀ table i₀ scratch i =
+    a-n - i
 
--- src/lib.rt:793:9
-array-borrow-prefix-value-hints : tie.Need-array-borrow-prefix-value-hints
-array-borrow-prefix-value-hints c = search needs
+-- src/lib.rt:893:9
+table-of-requires : tie.Need-table-of-requires Inv-loop μ-loop
+table-of-requires c κs = search needs
 
--- src/lib.rt:793:9
-slice-aggregate-fill-tabled-2 : tie.Need-slice-aggregate-fill-tabled-2
-slice-aggregate-fill-tabled-2 c = search needs
+-- src/lib.rt:895:5
+loop-holds : tie.Need-loop-holds Inv-loop μ-loop
+unfolding pointsIn
+loop-holds c = let s = c .before .before .before .before .before .before .before .before .before .before in
+    let x = s .args in
+    (refl, tabled _ _ _ _ (s .pre .0 .edges) (c .table-of .ensures), fill-starts (x .setup) (x .list .now) (x .value-edges .now) (x .auto) (pointIn (x .a-positions .now) (x .a-values .now) (x .a-weights .now) (x .a-stride)) (pointIn (x .b-positions .now) (x .b-values .now) (x .b-weights .now) (x .b-stride)) (x .a-n) (x .b-n) (x .scratch .now) (s .pre .1 .1 .1))
 
--- src/lib.rt:794:9
-slice-aggregate-fill-tabled-3 : tie.Need-slice-aggregate-fill-tabled-3
-slice-aggregate-fill-tabled-3 c = search needs
+-- src/lib.rt:896:13
+point-at-requires : tie.Need-point-at-requires Inv-loop μ-loop
+point-at-requires c κs = search (needs, c .before .before .before .before .before .before .before .before .before .before .before .before .pre .1 .0)
 
--- src/lib.rt:795:9
-slice-aggregate-fill-tabled-4 : tie.Need-slice-aggregate-fill-tabled-4
-slice-aggregate-fill-tabled-4 c = search needs
+-- src/lib.rt:897:13
+first-partner-requires : tie.Need-first-partner-requires Inv-loop μ-loop
+first-partner-requires c κs = omega (arith, c .before .loop-test, c .before .before .before .before .before .before .before .before .before .before .before .before .before .pre .1 .0 .few)
 
--- src/lib.rt:796:9
-slice-aggregate-fill-tabled-5 : tie.Need-slice-aggregate-fill-tabled-5
-slice-aggregate-fill-tabled-5 c = search needs
+-- src/lib.rt:898:9
+add-row-requires : tie.Need-add-row-requires Inv-loop μ-loop
+add-row-requires c κs = (c .before .before .before .before .loop .inv .1, c .before .before .before .before .before .before .before .before .before .before .before .before .before .before .before .pre .1 .1 .0)
 
--- src/lib.rt:797:9
-slice-aggregate-fill-tabled-6 : tie.Need-slice-aggregate-fill-tabled-6
-slice-aggregate-fill-tabled-6 c = search needs
+-- src/lib.rt:912:9
+add-i : tie.Need-add-i Inv-loop μ-loop
+add-i c = omega (arith, c .before .before .before .before .before .before .loop-test, c .before .before .before .before .before .before .before .before .before .before .before .before .before .before .before .before .before .before .pre .1 .0 .few)
 
--- src/lib.rt:798:9
-slice-aggregate-fill-tabled-7 : tie.Need-slice-aggregate-fill-tabled-7
-slice-aggregate-fill-tabled-7 c = search needs
+-- src/lib.rt:895:5
+loop-less : tie.Need-loop-less Inv-loop μ-loop
+loop-less c = omega (arith, c .before .before .before .before .before .before .loop-test)
 
--- src/lib.rt:777:5
-fill-tabled-requires : tie.Need-fill-tabled-requires
-fill-tabled-requires c κs = let s = c .before .before .before .before .before .before .before .before .before .before .before .before .before .before .before .before .before in
-    (s .pre .0, (s .pre .1 .0, (s .pre .1 .1 .0, (s .pre .1 .1 .1, (search needs, record { distances = search needs; quotients = search needs; listed = search needs; bins = search needs; values = search needs })))))
+-- src/lib.rt:895:5
+loop-again : tie.Need-loop-again Inv-loop μ-loop
+loop-again c = let t = c .before .before .before .before .before .before .before .loop in
+    let r = c .before .before .add-row in
+    let x = c .before .before .before .before .before .before .before .before .before .before .before .before .before .before .before .before .before .before .args in
+    (search needs, t .inv .1, fill-turn (x .setup) (x .list .now) (x .value-edges .now) (x .auto) (pointIn (x .a-positions .now) (x .a-values .now) (x .a-weights .now) (x .a-stride)) (pointIn (x .b-positions .now) (x .b-values .now) (x .b-weights .now) (x .b-stride)) (x .b-n) (x .a-n) _ (t .i) _ _ (t .scratch) _ (c .before .before .before .before .before .before .loop-test .taken) (c .before .before .before .before .before .point-at .ensures) (c .before .before .before .before .first-partner .ensures) (r .ensures) (t .inv .2))
 
--- src/lib.rt:743:1
-same-length : tie.Need-same-length
+-- src/lib.rt:867:1
+same-length : tie.Need-same-length Inv-loop μ-loop
 same-length c = search needs
 
--- src/lib.rt:743:1
-returns : tie.Need-returns
-returns c = search needs
+-- src/lib.rt:867:1
+returns : tie.Need-returns Inv-loop μ-loop
+returns c = let x = c .before .before .before .before .before .before .before .before .before .before .before .before .args in
+    let t = c .before .loop in
+    fill-done (x .setup) (x .list .now) (x .value-edges .now) (x .auto) (pointIn (x .a-positions .now) (x .a-values .now) (x .a-weights .now) (x .a-stride)) (pointIn (x .b-positions .now) (x .b-values .now) (x .b-weights .now) (x .b-stride)) (x .b-n) (x .a-n) _ (t .i) (t .scratch) (omega arith) (t .inv .2)
 
 pub fill-few-spec : {M : Type 1} → statement M
 fill-few-spec =
     tie.close
     (tie.spec
-    array-borrow-prefix-hints
-    slice-aggregate-fill-tabled
-    array-borrow-prefix-value-hints
-    slice-aggregate-fill-tabled-2
-    slice-aggregate-fill-tabled-3
-    slice-aggregate-fill-tabled-4
-    slice-aggregate-fill-tabled-5
-    slice-aggregate-fill-tabled-6
-    slice-aggregate-fill-tabled-7
-    fill-tabled-requires
+    Inv-loop
+    μ-loop
+    table-of-requires
+    loop-holds
+    point-at-requires
+    first-partner-requires
+    add-row-requires
+    add-i
+    loop-less
+    loop-again
     same-length
     returns)
