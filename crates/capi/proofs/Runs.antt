@@ -13,8 +13,8 @@ use Rattle.reducer.specs.declared.PairOperation.{PairOperation}
 use Rattle.reducer.specs.declared.Edges.{Edges}
 use Rattle.reducer.specs.declared.Kind.{Kind}
 use Rattle.parallel_serial.specs.declared.Shape.{Shape}
-use Rattle.unstructured.specs.declared.Stride.{Stride}
-use Rattle.unstructured.specs.Readings.{pointsOf}
+use Rattle.unstructured_points.specs.declared.Stride.{Stride}
+use Rattle.unstructured_points.specs.Readings.{pointsOf}
 use Rattle.twopoint_cartesian.specs.declared.Block.{Block}
 use Rattle.twopoint_cartesian.specs.Readings.{blockOf}
 use Rattle.capi.specs.Entries.{kindFrom, strideFrom, setFrom}

@@ -16,9 +16,9 @@ use Rattle.reducer.specs.declared.Edges.the-variants.{Regular, Irregular}
 use Rattle.reducer.specs.declared.Kind.{Kind}
 use Rattle.reducer.specs.declared.Kind.the-variants.{Comp0Mean, ComponentSumMean, ComponentSumHistogram}
 use Rattle.parallel_serial.specs.declared.Shape.{Shape}
-use Rattle.unstructured.specs.declared.Stride.{Stride}
-use Rattle.unstructured.specs.declared.Stride.the-variants.{Given, Omitted}
-use Rattle.unstructured.specs.declared.PointSet.{PointSet}
+use Rattle.unstructured_points.specs.declared.Stride.{Stride}
+use Rattle.unstructured_points.specs.declared.Stride.the-variants.{Given, Omitted}
+use Rattle.unstructured_points.specs.declared.PointSet.{PointSet}
 use Rattle.twopoint_cartesian.specs.declared.Block.{Block}
 use Rattle.twopoint_cartesian.specs.declared.CellWidth.{CellWidth}
 

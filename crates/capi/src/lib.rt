@@ -9,8 +9,8 @@ use state::Outcome;
 use state::StateKind;
 use twopoint_cartesian::Block;
 use twopoint_cartesian::CellWidth;
-use unstructured::PointSet;
-use unstructured::Stride;
+use unstructured_points::PointSet;
+use unstructured_points::Stride;
 ghost use mathlib.Core.Path.{_≡_};
 ghost use mathlib.Core.Option.{none, some};
 ghost use mathlib.Core.List.{[], _∷_};
@@ -23,6 +23,7 @@ ghost use Rattle.definitions.specs.Rules.{refusal, met, ifAccepted, edgesCallRu
 ghost use Rattle.bins.specs.Answers.{lookupNumber, lookupResult};
 ghost use Rattle.misc.specs.Segment.{segmentNumber, segmentBounds};
 ghost use Rattle.state.specs.Readings.{stateKindOf, numberOf};
+ghost use Rattle.unstructured_points.specs.Readings.{pointsOf};
 ghost use Rattle.unstructured.specs.Readings as points;
 ghost use Rattle.twopoint_cartesian.specs.Readings as blocks;
 ghost use Rattle.capi.specs.Entries.{edgesFrom, kindFrom, opFrom, strideFrom, stateKindFrom, setFrom, blockFrom, widthFrom, shapeFrom, written, lookupWords, segmentWords};
@@ -299,10 +300,10 @@ pub extern "C" fn pairstat_points_auto(
     teams: usize,
     pack: &mut [f64],
 ) -> u32
-    ensures { λ r. ⌜ r ≡ refusal (runRules (points.autoRun (points.pointsOf (setFrom «n_points» stated stride) (now (positions .entry)) (now (values .entry)) (now (weights .entry))) (edgesFrom irregular min max «n_bins») (now (list .entry))
+    ensures { λ r. ⌜ r ≡ refusal (runRules (points.autoRun (pointsOf (setFrom «n_points» stated stride) (now (positions .entry)) (now (values .entry)) (now (weights .entry))) (edgesFrom irregular min max «n_bins») (now (list .entry))
         (kindFrom form (edgesFrom «value_irregular» «value_min» «value_max» «value_bins»)) (now («value_edges» .entry)) (opFrom subtract)
         (shapeFrom «n_states» «state_size» members teams)) (length (now (pack .entry)))) ⌝ }
-    ensures { λ _. ⌜ now (pack .exit) ≡ step (points.autoRun (points.pointsOf (setFrom «n_points» stated stride) (now (positions .entry)) (now (values .entry)) (now (weights .entry))) (edgesFrom irregular min max «n_bins») (now (list .entry))
+    ensures { λ _. ⌜ now (pack .exit) ≡ step (points.autoRun (pointsOf (setFrom «n_points» stated stride) (now (positions .entry)) (now (values .entry)) (now (weights .entry))) (edgesFrom irregular min max «n_bins») (now (list .entry))
         (kindFrom form (edgesFrom «value_irregular» «value_min» «value_max» «value_bins»)) (now («value_edges» .entry)) (opFrom subtract)
         (shapeFrom «n_states» «state_size» members teams)) (now (pack .entry)) ⌝ }
 {
@@ -367,12 +368,12 @@ pub extern "C" fn pairstat_points_cross(
     teams: usize,
     pack: &mut [f64],
 ) -> u32
-    ensures { λ r. ⌜ r ≡ refusal (runRules (points.crossRun (points.pointsOf (setFrom «a_points» «a_stated» «a_stride») (now («a_positions» .entry)) (now («a_values» .entry)) (now («a_weights» .entry)))
-        (points.pointsOf (setFrom «b_points» «b_stated» «b_stride») (now («b_positions» .entry)) (now («b_values» .entry)) (now («b_weights» .entry))) (edgesFrom irregular min max «n_bins») (now (list .entry))
+    ensures { λ r. ⌜ r ≡ refusal (runRules (points.crossRun (pointsOf (setFrom «a_points» «a_stated» «a_stride») (now («a_positions» .entry)) (now («a_values» .entry)) (now («a_weights» .entry)))
+        (pointsOf (setFrom «b_points» «b_stated» «b_stride») (now («b_positions» .entry)) (now («b_values» .entry)) (now («b_weights» .entry))) (edgesFrom irregular min max «n_bins») (now (list .entry))
         (kindFrom form (edgesFrom «value_irregular» «value_min» «value_max» «value_bins»)) (now («value_edges» .entry)) (opFrom subtract)
         (shapeFrom «n_states» «state_size» members teams)) (length (now (pack .entry)))) ⌝ }
-    ensures { λ _. ⌜ now (pack .exit) ≡ step (points.crossRun (points.pointsOf (setFrom «a_points» «a_stated» «a_stride») (now («a_positions» .entry)) (now («a_values» .entry)) (now («a_weights» .entry)))
-        (points.pointsOf (setFrom «b_points» «b_stated» «b_stride») (now («b_positions» .entry)) (now («b_values» .entry)) (now («b_weights» .entry))) (edgesFrom irregular min max «n_bins») (now (list .entry))
+    ensures { λ _. ⌜ now (pack .exit) ≡ step (points.crossRun (pointsOf (setFrom «a_points» «a_stated» «a_stride») (now («a_positions» .entry)) (now («a_values» .entry)) (now («a_weights» .entry)))
+        (pointsOf (setFrom «b_points» «b_stated» «b_stride») (now («b_positions» .entry)) (now («b_values» .entry)) (now («b_weights» .entry))) (edgesFrom irregular min max «n_bins») (now (list .entry))
         (kindFrom form (edgesFrom «value_irregular» «value_min» «value_max» «value_bins»)) (now («value_edges» .entry)) (opFrom subtract)
         (shapeFrom «n_states» «state_size» members teams)) (now (pack .entry)) ⌝ }
 {

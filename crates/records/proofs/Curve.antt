@@ -15,9 +15,10 @@ use Rattle.reducer.specs.declared.PairOperation.the-variants.{ElementwiseMultip
 use Rattle.reducer.specs.declared.Edges.the-variants.{Irregular}
 use Rattle.reducer.specs.declared.Kind.the-variants.{ComponentSumMean}
 use Rattle.parallel_serial.specs.declared.Shape.{Shape}
-use Rattle.unstructured.specs.declared.Stride.the-variants.{Given}
-use Rattle.unstructured.specs.declared.PointSet.{PointSet}
-use Rattle.unstructured.specs.Readings.{pointsOf, setsRun, autoRun}
+use Rattle.unstructured_points.specs.declared.Stride.the-variants.{Given}
+use Rattle.unstructured_points.specs.declared.PointSet.{PointSet}
+use Rattle.unstructured_points.specs.Readings.{pointsOf}
+use Rattle.unstructured.specs.Readings.{setsRun, autoRun}
 use Rattle.records.specs.Stores.{stored}
 use Rattle.records.specs.Columns.{numbers, threeNumbers}
 use Rattle.records.specs.Answers.{curveRun, listedCurve, recordCurve}

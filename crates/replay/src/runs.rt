@@ -13,8 +13,8 @@ use reducer::PairOperation;
 use state::Outcome;
 use twopoint_cartesian::Block;
 use twopoint_cartesian::CellWidth;
-use unstructured::PointSet;
-use unstructured::Stride;
+use unstructured_points::PointSet;
+use unstructured_points::Stride;
 
 // Where the columns of a set (positions, values, weights) or of a block (three components, weights) stand, one after the other.
 pub struct Columns {

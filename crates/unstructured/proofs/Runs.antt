@@ -39,10 +39,13 @@ use Rattle.parallel_serial.specs.Drive.{zeroPack, addedScratch, builtEdges, bui
 use Rattle.parallel_serial.proofs.Refusals.{run-number, Drivable, Accepted, accepted}
 use Rattle.parallel_serial.proofs.Built.{built-made, reducer-made}
 use Rattle.parallel_serial.proofs.Scratch.{lent-zeros, zero-at, added-merged, step-refused, step-done, run-refused, run-done}
-use Rattle.unstructured.specs.declared.PointSet.{PointSet}
+use Rattle.unstructured_points.specs.declared.PointSet.{PointSet}
+use Rattle.unstructured_points.specs.Readings.{strideOf, pointsOf}
+use Rattle.unstructured_points.specs.Sets as sets
+use Rattle.unstructured_points.specs.Sets.{setsFor, setsNumber}
 use Rattle.unstructured.specs.declared.Setup.{Setup}
-use Rattle.unstructured.specs.Readings.{strideOf, pointsOf, setsRun}
-use Rattle.unstructured.specs.Pairs.{Readable, Held, pointIn, pointsIn, pairsFor, setsFor, builtPair, pairAdded, pairStep, filled, setsNumber}
+use Rattle.unstructured.specs.Readings.{setsRun}
+use Rattle.unstructured.specs.Pairs.{Readable, Held, pointIn, pointsIn, pairsFor, builtPair, pairAdded, pairStep, filled}
 use Rattle.unstructured.specs.Batches.{UsableRun}
 use Rattle.unstructured.proofs.Rules.{held-sets}
 
@@ -178,22 +181,6 @@ no-pair-rules : (auto : Bool) (a b : UnstructuredPoints) → refusal (pairRules 
 no-pair-rules true a b = refl
 no-pair-rules false a b = refl
 
-module _ (auto : Bool) (a b : PointSet) (pa va wa pb vb wb : List Float) where
-  -- the limits do not read the slices
-  over-sets : overSets (setsFor auto (pointsOf a [] [] []) (pointsOf b [] [] [])) ≡ overSets (setsFor auto (pointsOf a pa va wa) (pointsOf b pb vb wb))
-  over-sets = go auto
-    where
-      go : (t : Bool) → overSets (setsFor t (pointsOf a [] [] []) (pointsOf b [] [] [])) ≡ overSets (setsFor t (pointsOf a pa va wa) (pointsOf b pb vb wb))
-      go true = refl
-      go false = refl
-
-  -- r and n are what calls answered
-  pub by-calls : (r : Bool) (n : ℕ) (e : definitions.Edges) (k : kinds.Kind) (shape : Shape) (len x : ℕ) → r ≡ overSets (setsFor auto (pointsOf a [] [] []) (pointsOf b [] [] []))
-      → n ≡ refusal (setRules (setsFor auto (pointsOf a pa va wa) (pointsOf b pb vb wb))) → x ≡ runNumber r n 0 e k shape len
-      → x ≡ setsNumber (setsFor auto (pointsOf a pa va wa) (pointsOf b pb vb wb)) e k shape len
-  unfolding setsNumber
-  by-calls r n e k shape len x p q h = h ∙ (λ i. runNumber ((p ∙ over-sets) i) (q i) 0 e k shape len)
-
 module _ (auto : Bool) (a b : UnstructuredPoints) (edges : Edges) (list : List Float) (kind : Kind) (valueEdges : List Float) (shape : Shape) (s : List Float) (x : ℕ)
     (h : x ≡ setsNumber (setsFor auto a b) (edgesOf edges list) (kindOf kind valueEdges) shape (length s)) where
   module _ (op : PairOperation) where
@@ -201,7 +188,7 @@ module _ (auto : Bool) (a b : UnstructuredPoints) (edges : Edges) (list : List F
     this = setsRun (setsFor auto a b) edges list kind valueEdges op shape
 
     own-number : x ≡ refusal (runRules this (length s))
-    unfolding setsNumber setsRun
+    unfolding sets.setsNumber setsRun
     own-number =
         h ∙ ap (λ (n : ℕ). runNumber (overSets (setsFor auto a b)) (refusal (setRules (setsFor auto a b))) n (edgesOf edges list) (kindOf kind valueEdges) shape (length s)) (sym (no-pair-rules auto a b))
         ∙ run-number (setsFor auto a b) (opOf op) (edgesOf edges list) (kindOf kind valueEdges) shape (length s)
@@ -220,7 +207,7 @@ module _ (auto : Bool) (a b : UnstructuredPoints) (edges : Edges) (list : List F
 
   module _ (z : x ≡ 0) where
     all : Accepted (overSets (setsFor auto a b)) (refusal (setRules (setsFor auto a b))) 0 (edgesOf edges list) (kindOf kind valueEdges) shape (length s)
-    unfolding setsNumber
+    unfolding sets.setsNumber
     all = accepted (overSets (setsFor auto a b)) (refusal (setRules (setsFor auto a b))) 0 (edgesOf edges list) (kindOf kind valueEdges) shape (length s) (sym h ∙ z)
 
     pub drivable : Drivable (edgesOf edges list) (kindOf kind valueEdges) shape (length s)

@@ -7,29 +7,20 @@ use Prim.Native.Nat.{ℕ, zero, suc, _+_, _-_, _*_, _≤_, _<_}
 use lib.ListN.{length}
 use lib.Ieee.{Float}
 use Rattle.definitions.specs.Lists.{range, upto, laterPairs, allPairs}
-use Rattle.definitions.specs.Bins as Bins
 use Rattle.definitions.specs.Points as Points
 use Rattle.definitions.specs.Points.{UnstructuredPoints, stride, pointAt, squaredDiffNorm}
 use Rattle.definitions.specs.Reducer as Reducer
 use Rattle.definitions.specs.Reducer.{kept, dropped, pairIn, datumOf}
-use Rattle.definitions.specs.Run.{Sets, onePoints, twoPoints}
-use Rattle.definitions.specs.Rules.{refusal, overSets, setRules}
 use Rattle.laws.proofs.Places.{foldPack}
-use Rattle.reducer.specs.Readings.{opOf, readingOf}
+use Rattle.reducer.specs.Readings.{opOf}
 use Rattle.reducer.specs.Consume.{builtBin, consumed}
-use Rattle.parallel_serial.specs.declared.Shape.{Shape}
-use Rattle.parallel_serial.specs.Drive.{runNumber}
 use Rattle.unstructured.specs.declared.Pair.{Pair}
 use Rattle.unstructured.specs.declared.Pair.the-variants.{Kept, Dropped}
-use Rattle.unstructured.specs.declared.Point.{Point}
 use Rattle.unstructured.specs.declared.Setup.{Setup}
 
 abbrev pub thePair : Pair → Reducer.Pair
 thePair (Kept b c0 c1 c2 w) = kept b (record { c0 = c0; c1 = c1; c2 = c2; weight = w })
 thePair Dropped = dropped
-
-abbrev pub thePoint : Point → Points.Point
-thePoint a = record { c0 = a .c0; c1 = a .c1; c2 = a .c2; rd = readingOf (a .rd) }
 
 -- point i where the stride is known; shut, so that a goal shows it by its name
 unfoldable pub pointIn : List Float → List Float → List Float → ℕ → ℕ → Points.Point
@@ -64,10 +55,6 @@ abbrev pub firstPartner : Bool → ℕ → ℕ
 firstPartner true i = i + 1
 firstPartner false i = 0
 
-abbrev pub setsFor : Bool → UnstructuredPoints → UnstructuredPoints → Sets
-setsFor true a b = onePoints a
-setsFor false a b = twoPoints a b
-
 abbrev pub pairsFor : Bool → List Points.Point → List Points.Point → List (Points.Point × Points.Point)
 pairsFor true l m = laterPairs l
 pairsFor false l m = allPairs l m
@@ -91,7 +78,3 @@ module _ (setup : Setup) (list valueEdges : List Float) where
   -- all pairs
   unfoldable pub filled : Bool → List Points.Point → List Points.Point → List Float → List Float
   filled auto l m s = foldPack pairStep (pairsFor auto l m) s
-
--- the refusal of a run over the sets
-unfoldable pub setsNumber : Sets → Bins.Edges → Reducer.Kind → Shape → ℕ → ℕ
-setsNumber sets e k shape len = runNumber (overSets sets) (refusal (setRules sets)) 0 e k shape len

@@ -9,49 +9,34 @@ use reducer::Kind;
 use reducer::PairOperation;
 use reducer::Reducer;
 use state::Outcome;
+use unstructured_points::Point;
+use unstructured_points::PointSet;
 ghost use mathlib.Core.Path.{_≡_};
 ghost use mathlib.Core.Bool.{true};
-ghost use mathlib.Core.List.{[]};
 ghost use mathlib.Core.Option.{some};
 ghost use Prim.Native.Nat.{ℕ, _+_, _-_, _<_, _≤_};
 ghost use lib.ListN.{length, getD, take};
 ghost use lib.Ieee.{nan};
 ghost use Rattle.definitions.specs.Bins.{below};
-ghost use Rattle.definitions.specs.Points.{points, pointAt, strideOr, squaredDiffNorm};
+ghost use Rattle.definitions.specs.Points.{squaredDiffNorm};
 ghost use Rattle.definitions.specs.Run.{merged};
-ghost use Rattle.definitions.specs.Rules.{refusal, met, overPoints, pointRules, overSets, setRules, runRules, step};
+ghost use Rattle.definitions.specs.Rules.{refusal, met, runRules, step};
 ghost use Rattle.state.specs.Readings.{numberOf};
 ghost use Rattle.bins.specs.Answers.{indexOf};
 ghost use Rattle.reducer.specs.Readings.{edgesOf, kindOf};
 ghost use Rattle.edge_table.specs.Tabled.{TabledValues};
 ghost use Rattle.parallel_serial.specs.Drive.{zeroPack, addedScratch};
 ghost use Rattle.parallel_serial.proofs.Refusals.{Drivable};
-ghost use Rattle.unstructured.specs.Readings.{strideOf, pointsOf, setsRun, autoRun, crossRun};
-ghost use Rattle.unstructured.specs.Pairs.{thePair, thePoint, pointIn, pointsIn, Holds, Readable, Held, firstPartner, setsFor, rowAdded, filled, setsNumber};
+ghost use Rattle.unstructured_points.specs.Readings.{pointsOf, thePoint};
+ghost use Rattle.unstructured_points.specs.Sets.{setsFor};
+ghost use Rattle.unstructured.specs.Readings.{setsRun, autoRun, crossRun};
+ghost use Rattle.unstructured.specs.Pairs.{thePair, pointIn, pointsIn, Holds, Readable, Held, firstPartner, rowAdded, filled};
 ghost use Rattle.unstructured.specs.Batches.{UsableRun, TabledRun, Rooms, Listed, inside, keptBelow, picked, numberedPair, pairPlaced, pairValues, placedTo, valueNumbers, placesAdded};
-
-// The stride of positions and values; left out it is the number of points.
-pub enum Stride {
-    Given(usize),
-    Omitted,
-}
-
-pub struct PointSet {
-    pub n_points: usize,
-    pub stride: Stride,
-}
 
 // What a pair yields: a bin, three component values and a weight, or nothing.
 pub enum Pair {
     Kept(usize, f64, f64, f64, f64),
     Dropped,
-}
-
-struct Point {
-    c0: f64,
-    c1: f64,
-    c2: f64,
-    rd: Datum,
 }
 
 // What is the same for each pair of a run.
@@ -66,90 +51,6 @@ struct Setup {
 struct Tables {
     edges: Table,
     values: Table,
-}
-
-// ---- refusals
-
-fn stride_of(set: PointSet) -> usize
-    ensures { λ r. ⌜ r ≡ strideOr (set .«n_points») (strideOf (set .stride)) ⌝ }
-{
-    let stride = set.stride;
-    match stride {
-        Stride::Given(k) => k,
-        Stride::Omitted => set.n_points,
-    }
-}
-
-fn points_over(set: PointSet) -> bool
-    ensures { λ r. ⌜ r ≡ overPoints (pointsOf set [] [] []) ⌝ }
-{
-    if set.n_points > 4096 {
-        return true;
-    }
-    stride_of(set) > 8192
-}
-
-fn points_refusal(positions: &[f64], values: &[f64], weights: &[f64], set: PointSet) -> u32
-    ensures { λ r. ⌜ r ≡ refusal (pointRules (pointsOf set (now (positions .entry)) (now (values .entry)) (now (weights .entry)))) ⌝ }
-{
-    let stride = stride_of(set);
-    if set.n_points == 0 {
-        return 1;
-    }
-    if set.n_points > stride {
-        return 2;
-    }
-    if values.len() != positions.len() {
-        return 3;
-    }
-    if positions.len() % stride != 0 {
-        return 4;
-    }
-    if positions.len() / stride != 3 {
-        return 5;
-    }
-    if weights.len() != set.n_points {
-        return 6;
-    }
-    0
-}
-
-// ---- of a run's sets, a before b; in auto the two are one
-
-fn sets_over(auto: bool, a: PointSet, b: PointSet) -> bool
-    ensures { λ r. ⌜ r ≡ overSets (setsFor auto (pointsOf a [] [] []) (pointsOf b [] [] [])) ⌝ }
-{
-    if points_over(a) {
-        return true;
-    }
-    if auto {
-        return false;
-    }
-    points_over(b)
-}
-
-fn sets_refusal(
-    auto: bool,
-    a_positions: &[f64],
-    a_values: &[f64],
-    a_weights: &[f64],
-    a: PointSet,
-    b_positions: &[f64],
-    b_values: &[f64],
-    b_weights: &[f64],
-    b: PointSet,
-) -> u32
-    ensures { λ r. ⌜ r ≡ refusal (setRules (setsFor auto (pointsOf a (now («a_positions» .entry)) (now («a_values» .entry)) (now («a_weights» .entry)))
-        (pointsOf b (now («b_positions» .entry)) (now («b_values» .entry)) (now («b_weights» .entry))))) ⌝ }
-{
-    let number = points_refusal(a_positions, a_values, a_weights, a);
-    if number != 0 {
-        return number;
-    }
-    if auto {
-        return 0;
-    }
-    points_refusal(b_positions, b_values, b_weights, b)
 }
 
 // ---- pairs
@@ -170,15 +71,6 @@ fn point_at(positions: &[f64], values: &[f64], weights: &[f64], stride: usize, i
         c2: positions[2 * stride + i],
         rd,
     }
-}
-
-fn squared_diff_norm(a: Point, b: Point) -> f64
-    ensures { λ r. ⌜ r ≡ squaredDiffNorm (thePoint a) (thePoint b) ⌝ }
-{
-    let d0 = b.c0 - a.c0;
-    let d1 = b.c1 - a.c1;
-    let d2 = b.c2 - a.c2;
-    d0 * d0 + (d1 * d1 + d2 * d2)
 }
 
 // One of n bins.
@@ -249,7 +141,7 @@ fn distances(
     let mut e = 0;
     while e < m {
         let b = point_at(positions, values, weights, stride, j + e);
-        d[e] = squared_diff_norm(a, b);
+        d[e] = unstructured_points::squared_diff_norm(a, b);
         e += 1;
     }
 }
@@ -1355,8 +1247,8 @@ fn drive(
         reducer,
         n_states,
     };
-    let a_stride = stride_of(a);
-    let b_stride = stride_of(b);
+    let a_stride = unstructured_points::stride_of(a);
+    let b_stride = unstructured_points::stride_of(b);
     let used = n_states * state_size;
     run_sized(
         auto,
@@ -1376,43 +1268,6 @@ fn drive(
         used,
         pack,
     );
-}
-
-// The first broken rule of a run.
-fn run_refusal(
-    auto: bool,
-    a_positions: &[f64],
-    a_values: &[f64],
-    a_weights: &[f64],
-    a: PointSet,
-    b_positions: &[f64],
-    b_values: &[f64],
-    b_weights: &[f64],
-    b: PointSet,
-    edges: Edges,
-    list: &[f64],
-    kind: Kind,
-    value_edges: &[f64],
-    shape: Shape,
-    len: usize,
-) -> u32
-    ensures { λ r. ⌜ r ≡ setsNumber (setsFor auto (pointsOf a (now («a_positions» .entry)) (now («a_values» .entry)) (now («a_weights» .entry)))
-        (pointsOf b (now («b_positions» .entry)) (now («b_values» .entry)) (now («b_weights» .entry))))
-        (edgesOf edges (now (list .entry))) (kindOf kind (now («value_edges» .entry))) shape len ⌝ }
-{
-    let over = sets_over(auto, a, b);
-    let number = sets_refusal(
-        auto,
-        a_positions,
-        a_values,
-        a_weights,
-        a,
-        b_positions,
-        b_values,
-        b_weights,
-        b,
-    );
-    parallel_serial::run_refusal(over, number, 0, edges, list, kind, value_edges, shape, len)
 }
 
 fn run(
@@ -1441,7 +1296,7 @@ fn run(
         (pointsOf b (now («b_positions» .entry)) (now («b_values» .entry)) (now («b_weights» .entry))))
         edges (now (list .entry)) kind (now («value_edges» .entry)) op shape) (now (pack .entry)) ⌝ }
 {
-    let number = run_refusal(
+    let number = unstructured_points::run_refusal(
         auto,
         a_positions,
         a_values,

@@ -2,7 +2,8 @@ use mathlib.Core.Path.{sym, _∙_}
 use native.Mathlib.Omega.{arith}
 use lib.ListN.{take}
 use lib.Seq.{length-take-le}
-use Rattle.unstructured.specs.Pairs.{thePoint, pointIn}
+use Rattle.unstructured_points.specs.Readings.{thePoint}
+use Rattle.unstructured.specs.Pairs.{pointIn}
 use Rattle.unstructured.proofs.Batches.{kept-listed, batch-row}
 use borrow.Author.Needs.{needs}
 use Rattle.unstructured.proofs.add_batch.Statement.{statement}

@@ -3,7 +3,8 @@ use borrow.Author.Needs.{needs}
 use mathlib.Core.Path.{_≡_, refl, _∙_}
 use Prim.Native.Nat.{_-_}
 use lib.ListN.{length}
-use Rattle.unstructured.specs.Pairs.{thePoint, pointIn, rowAdded}
+use Rattle.unstructured_points.specs.Readings.{thePoint}
+use Rattle.unstructured.specs.Pairs.{pointIn, rowAdded}
 use Rattle.unstructured.proofs.Loops.{row-done}
 use Rattle.unstructured.proofs.Batches.{batches-turn}
 use Rattle.unstructured.proofs.add_batches.Statement.{statement}

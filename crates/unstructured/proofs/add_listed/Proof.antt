@@ -1,4 +1,5 @@
-use Rattle.unstructured.specs.Pairs.{thePoint, pointIn}
+use Rattle.unstructured_points.specs.Readings.{thePoint}
+use Rattle.unstructured.specs.Pairs.{pointIn}
 use Rattle.unstructured.proofs.Batches.{placed-by}
 use borrow.Author.Needs.{needs}
 use Rattle.unstructured.proofs.add_listed.Statement.{statement}

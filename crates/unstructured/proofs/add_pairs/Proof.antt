@@ -3,7 +3,8 @@ use Prim.Native.Nat.{_-_, _≤_, zero-le}
 use native.Mathlib.Omega.{arith}
 use lib.ListN.{length}
 use borrow.Author.Needs.{needs}
-use Rattle.unstructured.specs.Pairs.{thePoint, pointIn}
+use Rattle.unstructured_points.specs.Readings.{thePoint}
+use Rattle.unstructured.specs.Pairs.{pointIn}
 use Rattle.unstructured.specs.Batches.{placedTo}
 use Rattle.unstructured.proofs.Batches.{placed-next}
 use Rattle.unstructured.proofs.add_pairs.Statement.{statement}

@@ -5,14 +5,15 @@ use lib.ListN.{length, getD, length-set}
 use lib.Ieee.{nan}
 use borrow.Author.Needs.{needs}
 use Rattle.definitions.specs.Points.{squaredDiffNorm}
-use Rattle.unstructured.specs.Pairs.{thePoint, pointIn}
+use Rattle.unstructured_points.specs.Readings.{thePoint}
+use Rattle.unstructured.specs.Pairs.{pointIn}
 use Rattle.unstructured.proofs.Batches.{stored-next}
 use Rattle.unstructured.proofs.distances.Statement.{statement}
 use Rattle.unstructured.proofs.distances.Tie as tie
 use Rattle.unstructured.proofs.distances.Reads as reads
 use Rattle.unstructured.proofs.distances.Lts as lts
 use Rattle.unstructured.proofs.point_at.Reads as point-at-reads
-use Rattle.unstructured.proofs.squared_diff_norm.Reads as squared-diff-norm-reads
+use Rattle.unstructured_points.proofs.squared_diff_norm.Reads as squared-diff-norm-reads
 
 abbrev Inv-loop : tie.InvT-loop
 Inv-loop a positions values weights stride j m d₀ e₀ d e = (e ≤ m) × (length d ≡ length d₀) × ((x : ℕ) → x < e → getD d x nan ≡ squaredDiffNorm (thePoint a) (pointIn positions values weights stride (j + x)))

@@ -7,7 +7,7 @@ use Rattle.unstructured.proofs.drive.Lts as lts
 use Rattle.parallel_serial.proofs.build_edges.Reads as build-edges-reads
 use Rattle.parallel_serial.proofs.build_reducer.Reads as build-reducer-reads
 use Rattle.unstructured.proofs.run_sized.Reads as run-sized-reads
-use Rattle.unstructured.proofs.stride_of.Reads as stride-of-reads
+use Rattle.unstructured_points.proofs.stride_of.Reads as stride-of-reads
 
 -- src/lib.rt:1183:9
 build-edges-requires : tie.Need-build-edges-requires

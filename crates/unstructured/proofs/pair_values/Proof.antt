@@ -7,7 +7,8 @@ use borrow.Author.Needs.{needs}
 use Rattle.definitions.specs.Points as points
 use Rattle.definitions.specs.Reducer.{datumOf, componentSum}
 use Rattle.reducer.specs.Readings.{opOf, readingOf}
-use Rattle.unstructured.specs.Pairs.{thePoint, pointIn}
+use Rattle.unstructured_points.specs.Readings.{thePoint}
+use Rattle.unstructured.specs.Pairs.{pointIn}
 use Rattle.unstructured.proofs.Batches.{stored-next, values-are}
 use Rattle.unstructured.proofs.pair_values.Statement.{statement}
 use Rattle.unstructured.proofs.pair_values.Tie as tie

@@ -1,12 +1,12 @@
 use Rattle.unstructured.proofs.Runs.{answer-refused, answer-done, stays, done, drivable, held-first, held-second}
 use borrow.Author.Needs.{needs}
-use Rattle.unstructured.specs.Readings.{pointsOf}
+use Rattle.unstructured_points.specs.Readings.{pointsOf}
 use Rattle.unstructured.proofs.run.Statement.{statement}
 use Rattle.unstructured.proofs.run.Tie as tie
 use Rattle.unstructured.proofs.run.Reads as reads
 use Rattle.unstructured.proofs.run.Lts as lts
 use Rattle.unstructured.proofs.drive.Reads as drive-reads
-use Rattle.unstructured.proofs.run_refusal.Reads as run-refusal-reads
+use Rattle.unstructured_points.proofs.run_refusal.Reads as run-refusal-reads
 
 -- src/lib.rt:467:9
 run-refusal-requires : tie.Need-run-refusal-requires

@@ -1,12 +1,12 @@
-use Rattle.unstructured.proofs.Runs.{by-calls}
+use Rattle.unstructured_points.proofs.Rules.{by-calls}
 use borrow.Author.Needs.{needs}
-use Rattle.unstructured.proofs.run_refusal.Statement.{statement}
-use Rattle.unstructured.proofs.run_refusal.Tie as tie
-use Rattle.unstructured.proofs.run_refusal.Reads as reads
-use Rattle.unstructured.proofs.run_refusal.Lts as lts
+use Rattle.unstructured_points.proofs.run_refusal.Statement.{statement}
+use Rattle.unstructured_points.proofs.run_refusal.Tie as tie
+use Rattle.unstructured_points.proofs.run_refusal.Reads as reads
+use Rattle.unstructured_points.proofs.run_refusal.Lts as lts
 use Rattle.parallel_serial.proofs.run_refusal.Reads as run-refusal-reads
-use Rattle.unstructured.proofs.sets_over.Reads as sets-over-reads
-use Rattle.unstructured.proofs.sets_refusal.Reads as sets-refusal-reads
+use Rattle.unstructured_points.proofs.sets_over.Reads as sets-over-reads
+use Rattle.unstructured_points.proofs.sets_refusal.Reads as sets-refusal-reads
 
 -- src/lib.rt:426:9
 sets-over-requires : tie.Need-sets-over-requires

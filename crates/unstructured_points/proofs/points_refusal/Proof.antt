@@ -1,10 +1,10 @@
-use Rattle.unstructured.proofs.Rules.{points-numbers}
+use Rattle.unstructured_points.proofs.Rules.{points-numbers}
 use borrow.Author.Needs.{needs}
-use Rattle.unstructured.proofs.points_refusal.Statement.{statement}
-use Rattle.unstructured.proofs.points_refusal.Tie as tie
-use Rattle.unstructured.proofs.points_refusal.Reads as reads
-use Rattle.unstructured.proofs.points_refusal.Lts as lts
-use Rattle.unstructured.proofs.stride_of.Reads as stride-of-reads
+use Rattle.unstructured_points.proofs.points_refusal.Statement.{statement}
+use Rattle.unstructured_points.proofs.points_refusal.Tie as tie
+use Rattle.unstructured_points.proofs.points_refusal.Reads as reads
+use Rattle.unstructured_points.proofs.points_refusal.Lts as lts
+use Rattle.unstructured_points.proofs.stride_of.Reads as stride-of-reads
 
 -- src/lib.rt:82:9
 stride-of-requires : tie.Need-stride-of-requires

@@ -1,10 +1,10 @@
-use Rattle.unstructured.proofs.Rules.{over-first, over-auto, over-second}
+use Rattle.unstructured_points.proofs.Rules.{over-first, over-auto, over-second}
 use borrow.Author.Needs.{needs}
-use Rattle.unstructured.proofs.sets_over.Statement.{statement}
-use Rattle.unstructured.proofs.sets_over.Tie as tie
-use Rattle.unstructured.proofs.sets_over.Reads as reads
-use Rattle.unstructured.proofs.sets_over.Lts as lts
-use Rattle.unstructured.proofs.points_over.Reads as points-over-reads
+use Rattle.unstructured_points.proofs.sets_over.Statement.{statement}
+use Rattle.unstructured_points.proofs.sets_over.Tie as tie
+use Rattle.unstructured_points.proofs.sets_over.Reads as reads
+use Rattle.unstructured_points.proofs.sets_over.Lts as lts
+use Rattle.unstructured_points.proofs.points_over.Reads as points-over-reads
 
 -- src/lib.rt:109:8
 points-over-requires : tie.Need-points-over-requires

@@ -1,10 +1,10 @@
-use Rattle.unstructured.proofs.Rules.{refused-first, refused-auto, refused-second}
+use Rattle.unstructured_points.proofs.Rules.{refused-first, refused-auto, refused-second}
 use borrow.Author.Needs.{needs}
-use Rattle.unstructured.proofs.sets_refusal.Statement.{statement}
-use Rattle.unstructured.proofs.sets_refusal.Tie as tie
-use Rattle.unstructured.proofs.sets_refusal.Reads as reads
-use Rattle.unstructured.proofs.sets_refusal.Lts as lts
-use Rattle.unstructured.proofs.points_refusal.Reads as points-refusal-reads
+use Rattle.unstructured_points.proofs.sets_refusal.Statement.{statement}
+use Rattle.unstructured_points.proofs.sets_refusal.Tie as tie
+use Rattle.unstructured_points.proofs.sets_refusal.Reads as reads
+use Rattle.unstructured_points.proofs.sets_refusal.Lts as lts
+use Rattle.unstructured_points.proofs.points_refusal.Reads as points-refusal-reads
 
 -- src/lib.rt:132:9
 points-refusal-requires : tie.Need-points-refusal-requires
