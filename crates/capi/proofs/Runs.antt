@@ -15,8 +15,8 @@ use Rattle.reducer.specs.declared.Kind.{Kind}
 use Rattle.parallel_serial.specs.declared.Shape.{Shape}
 use Rattle.unstructured_points.specs.declared.Stride.{Stride}
 use Rattle.unstructured_points.specs.Readings.{pointsOf}
-use Rattle.twopoint_cartesian.specs.declared.Block.{Block}
-use Rattle.twopoint_cartesian.specs.Readings.{blockOf}
+use Rattle.spatial.specs.declared.Block.{Block}
+use Rattle.spatial.specs.Readings.{blockOf}
 use Rattle.capi.specs.Entries.{kindFrom, strideFrom, setFrom}
 
 module _ (run given : Run) (same : run ≡ given) where

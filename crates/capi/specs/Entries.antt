@@ -19,8 +19,8 @@ use Rattle.parallel_serial.specs.declared.Shape.{Shape}
 use Rattle.unstructured_points.specs.declared.Stride.{Stride}
 use Rattle.unstructured_points.specs.declared.Stride.the-variants.{Given, Omitted}
 use Rattle.unstructured_points.specs.declared.PointSet.{PointSet}
-use Rattle.twopoint_cartesian.specs.declared.Block.{Block}
-use Rattle.twopoint_cartesian.specs.declared.CellWidth.{CellWidth}
+use Rattle.spatial.specs.declared.Block.{Block}
+use Rattle.spatial.specs.declared.CellWidth.{CellWidth}
 
 -- 0: regular
 unfoldable pub edgesFrom : ℕ → Float → Float → ℕ → Edges

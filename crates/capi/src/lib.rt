@@ -5,10 +5,10 @@ use parallel_serial::Shape;
 use reducer::Edges;
 use reducer::Kind;
 use reducer::PairOperation;
+use spatial::Block;
+use spatial::CellWidth;
 use state::Outcome;
 use state::StateKind;
-use twopoint_cartesian::Block;
-use twopoint_cartesian::CellWidth;
 use unstructured_points::PointSet;
 use unstructured_points::Stride;
 ghost use mathlib.Core.Path.{_≡_};
@@ -25,6 +25,7 @@ ghost use Rattle.misc.specs.Segment.{segmentNumber, segmentBounds};
 ghost use Rattle.state.specs.Readings.{stateKindOf, numberOf};
 ghost use Rattle.unstructured_points.specs.Readings.{pointsOf};
 ghost use Rattle.unstructured.specs.Readings as points;
+ghost use Rattle.spatial.specs.Readings.{blockOf};
 ghost use Rattle.twopoint_cartesian.specs.Readings as blocks;
 ghost use Rattle.capi.specs.Entries.{edgesFrom, kindFrom, opFrom, strideFrom, stateKindFrom, setFrom, blockFrom, widthFrom, shapeFrom, written, lookupWords, segmentWords};
 
@@ -450,11 +451,11 @@ pub extern "C" fn pairstat_blocks_auto(
     teams: usize,
     pack: &mut [f64],
 ) -> u32
-    ensures { λ r. ⌜ r ≡ refusal (runRules (blocks.autoRun (widthFrom «width_z» «width_y» «width_x») (blocks.blockOf (blockFrom «a_nz» «a_ny» «a_nx» «a_sz» «a_sy» «a_sx» «a_gz» «a_gy» «a_gx») (now (a0 .entry)) (now (a1 .entry)) (now (a2 .entry)) (now (aw .entry)))
+    ensures { λ r. ⌜ r ≡ refusal (runRules (blocks.autoRun (widthFrom «width_z» «width_y» «width_x») (blockOf (blockFrom «a_nz» «a_ny» «a_nx» «a_sz» «a_sy» «a_sx» «a_gz» «a_gy» «a_gx») (now (a0 .entry)) (now (a1 .entry)) (now (a2 .entry)) (now (aw .entry)))
         (edgesFrom irregular min max «n_bins») (now (list .entry))
         (kindFrom form (edgesFrom «value_irregular» «value_min» «value_max» «value_bins»)) (now («value_edges» .entry)) (opFrom subtract)
         (shapeFrom «n_states» «state_size» members teams)) (length (now (pack .entry)))) ⌝ }
-    ensures { λ _. ⌜ now (pack .exit) ≡ step (blocks.autoRun (widthFrom «width_z» «width_y» «width_x») (blocks.blockOf (blockFrom «a_nz» «a_ny» «a_nx» «a_sz» «a_sy» «a_sx» «a_gz» «a_gy» «a_gx») (now (a0 .entry)) (now (a1 .entry)) (now (a2 .entry)) (now (aw .entry)))
+    ensures { λ _. ⌜ now (pack .exit) ≡ step (blocks.autoRun (widthFrom «width_z» «width_y» «width_x») (blockOf (blockFrom «a_nz» «a_ny» «a_nx» «a_sz» «a_sy» «a_sx» «a_gz» «a_gy» «a_gx») (now (a0 .entry)) (now (a1 .entry)) (now (a2 .entry)) (now (aw .entry)))
         (edgesFrom irregular min max «n_bins») (now (list .entry))
         (kindFrom form (edgesFrom «value_irregular» «value_min» «value_max» «value_bins»)) (now («value_edges» .entry)) (opFrom subtract)
         (shapeFrom «n_states» «state_size» members teams)) (now (pack .entry)) ⌝ }
@@ -541,13 +542,13 @@ pub extern "C" fn pairstat_blocks_cross(
     teams: usize,
     pack: &mut [f64],
 ) -> u32
-    ensures { λ r. ⌜ r ≡ refusal (runRules (blocks.crossRun (widthFrom «width_z» «width_y» «width_x») (blocks.blockOf (blockFrom «a_nz» «a_ny» «a_nx» «a_sz» «a_sy» «a_sx» «a_gz» «a_gy» «a_gx») (now (a0 .entry)) (now (a1 .entry)) (now (a2 .entry)) (now (aw .entry)))
-        (blocks.blockOf (blockFrom «b_nz» «b_ny» «b_nx» «b_sz» «b_sy» «b_sx» «b_gz» «b_gy» «b_gx») (now (b0 .entry)) (now (b1 .entry)) (now (b2 .entry)) (now (bw .entry)))
+    ensures { λ r. ⌜ r ≡ refusal (runRules (blocks.crossRun (widthFrom «width_z» «width_y» «width_x») (blockOf (blockFrom «a_nz» «a_ny» «a_nx» «a_sz» «a_sy» «a_sx» «a_gz» «a_gy» «a_gx») (now (a0 .entry)) (now (a1 .entry)) (now (a2 .entry)) (now (aw .entry)))
+        (blockOf (blockFrom «b_nz» «b_ny» «b_nx» «b_sz» «b_sy» «b_sx» «b_gz» «b_gy» «b_gx») (now (b0 .entry)) (now (b1 .entry)) (now (b2 .entry)) (now (bw .entry)))
         (edgesFrom irregular min max «n_bins») (now (list .entry))
         (kindFrom form (edgesFrom «value_irregular» «value_min» «value_max» «value_bins»)) (now («value_edges» .entry)) (opFrom subtract)
         (shapeFrom «n_states» «state_size» members teams)) (length (now (pack .entry)))) ⌝ }
-    ensures { λ _. ⌜ now (pack .exit) ≡ step (blocks.crossRun (widthFrom «width_z» «width_y» «width_x») (blocks.blockOf (blockFrom «a_nz» «a_ny» «a_nx» «a_sz» «a_sy» «a_sx» «a_gz» «a_gy» «a_gx») (now (a0 .entry)) (now (a1 .entry)) (now (a2 .entry)) (now (aw .entry)))
-        (blocks.blockOf (blockFrom «b_nz» «b_ny» «b_nx» «b_sz» «b_sy» «b_sx» «b_gz» «b_gy» «b_gx») (now (b0 .entry)) (now (b1 .entry)) (now (b2 .entry)) (now (bw .entry)))
+    ensures { λ _. ⌜ now (pack .exit) ≡ step (blocks.crossRun (widthFrom «width_z» «width_y» «width_x») (blockOf (blockFrom «a_nz» «a_ny» «a_nx» «a_sz» «a_sy» «a_sx» «a_gz» «a_gy» «a_gx») (now (a0 .entry)) (now (a1 .entry)) (now (a2 .entry)) (now (aw .entry)))
+        (blockOf (blockFrom «b_nz» «b_ny» «b_nx» «b_sz» «b_sy» «b_sx» «b_gz» «b_gy» «b_gx») (now (b0 .entry)) (now (b1 .entry)) (now (b2 .entry)) (now (bw .entry)))
         (edgesFrom irregular min max «n_bins») (now (list .entry))
         (kindFrom form (edgesFrom «value_irregular» «value_min» «value_max» «value_bins»)) (now («value_edges» .entry)) (opFrom subtract)
         (shapeFrom «n_states» «state_size» members teams)) (now (pack .entry)) ⌝ }

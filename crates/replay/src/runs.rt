@@ -10,9 +10,9 @@ use parallel_serial::Shape;
 use reducer::Edges;
 use reducer::Kind;
 use reducer::PairOperation;
+use spatial::Block;
+use spatial::CellWidth;
 use state::Outcome;
-use twopoint_cartesian::Block;
-use twopoint_cartesian::CellWidth;
 use unstructured_points::PointSet;
 use unstructured_points::Stride;
 

@@ -16,9 +16,9 @@ use Rattle.definitions.specs.Blocks.{displaced, distanceSquared}
 use Rattle.laws.proofs.Integers.{abs-add, abs-sub}
 use Rattle.idx_3d_offset.specs.declared.Idx3DOffset.{Idx3DOffset}
 use Rattle.idx_3d_offset.specs.Offsets.{idxOf}
-use Rattle.twopoint_cartesian.specs.declared.Block.{Block}
-use Rattle.twopoint_cartesian.specs.declared.CellWidth.{CellWidth}
-use Rattle.twopoint_cartesian.specs.Readings.{blockOf, widthOf}
+use Rattle.spatial.specs.declared.Block.{Block}
+use Rattle.spatial.specs.declared.CellWidth.{CellWidth}
+use Rattle.spatial.specs.Readings.{blockOf, widthOf}
 use Rattle.twopoint_cartesian.specs.Cells.{Near, AllNear}
 
 mag-abs : (z : ℤ) → mag z ≤ natAbs z

@@ -1,4 +1,3 @@
-pub mod Refusals
 pub mod Ready
 pub mod Distance
 pub mod Loops

@@ -1,8 +1,8 @@
--- A run: the number that it answers, and that the pack of an accepted one is merged. Assumes nothing.
+-- A run: what follows of the number that it answers, and that the pack of an accepted one is merged. Assumes nothing.
 use mathlib.Core.Path.{_≡_, refl, sym, ap, _∙_}
 use mathlib.Core.Bool.{Bool, true, false, cond}
 use mathlib.Core.Option.{none, some}
-use mathlib.Core.List.{List, []}
+use mathlib.Core.List.{List}
 use Prim.Native.Nat.{ℕ, _*_, _≤_}
 use native.Mathlib.Omega.{arith}
 use lib.ListN.{length, take, length-replicate}
@@ -33,58 +33,30 @@ use Rattle.reducer.proofs.Placewise.{made-bins, made-size}
 use Rattle.edge_table.proofs.Lookup.{usable-made, usable-values-made}
 use Rattle.parallel_serial.specs.declared.Shape.{Shape}
 use Rattle.parallel_serial.specs.Drive as drive
-use Rattle.parallel_serial.specs.Drive.{zeroPack, addedScratch, builtEdges, builtReducer, runNumber}
-use Rattle.parallel_serial.proofs.Refusals.{run-number, run-limit, Drivable, Accepted, accepted}
+use Rattle.parallel_serial.specs.Drive.{zeroPack, addedScratch, builtEdges, builtReducer}
+use Rattle.parallel_serial.proofs.Refusals.{run-number, Drivable, Accepted, accepted}
 use Rattle.parallel_serial.proofs.Built.{built-made, reducer-made}
 use Rattle.parallel_serial.proofs.Scratch.{lent-length, lent-zeros, added-merged, step-refused, step-done, run-refused, run-done}
 use Rattle.idx_3d_offset.specs.Offsets.{autoSeq}
 use Rattle.idx_3d_offset.proofs.Sequence.{cross-all, auto-fold}
-use Rattle.twopoint_cartesian.specs.declared.Block.{Block}
-use Rattle.twopoint_cartesian.specs.declared.CellWidth.{CellWidth}
-use Rattle.twopoint_cartesian.specs.Readings.{blockOf, widthOf, axesOf, setsRun}
+use Rattle.spatial.specs.declared.Block.{Block}
+use Rattle.spatial.specs.declared.CellWidth.{CellWidth}
+use Rattle.spatial.specs.Readings.{blockOf, widthOf}
+use Rattle.spatial.specs.Refusals as refusals
+use Rattle.spatial.specs.Refusals.{setsFor, setsNumber}
+use Rattle.twopoint_cartesian.specs.Readings.{axesOf, setsRun}
 use Rattle.twopoint_cartesian.specs.Cells.{Ready, Findable, Roomy, zeroState, seqFor, offsetsAdded}
-use Rattle.twopoint_cartesian.specs.Refusals.{setsFor, noWidth, setsNumber}
 use Rattle.twopoint_cartesian.proofs.Ready.{ready-sets}
 use Rattle.twopoint_cartesian.proofs.Placewise.{theRun, filled-length, filled-at}
 
--- ---- the number that a run answers; r, n and m are what calls answered
-module _ (auto : Bool) (width : CellWidth) (a b : Block) (a0 a1 a2 aw b0 b1 b2 bw : List Float) where
-  abbrev sets : run.Sets
-  sets = setsFor auto (widthOf width) (blockOf a a0 a1 a2 aw) (blockOf b b0 b1 b2 bw)
-
-  -- the limits do not read the slices and the widths, and neither do the rules on pairs
-  over-same : overSets (setsFor auto noWidth (blockOf a [] [] [] []) (blockOf b [] [] [] [])) ≡ overSets sets
-  over-same = go auto
-    where
-      go : (t : Bool) → overSets (setsFor t noWidth (blockOf a [] [] [] []) (blockOf b [] [] [] [])) ≡ overSets (setsFor t (widthOf width) (blockOf a a0 a1 a2 aw) (blockOf b b0 b1 b2 bw))
-      go true = refl
-      go false = refl
-
-  pairs-same : refusal (pairRules (setsFor auto noWidth (blockOf a [] [] [] []) (blockOf b [] [] [] []))) ≡ refusal (pairRules sets)
-  pairs-same = go auto
-    where
-      go : (t : Bool) → refusal (pairRules (setsFor t noWidth (blockOf a [] [] [] []) (blockOf b [] [] [] []))) ≡ refusal (pairRules (setsFor t (widthOf width) (blockOf a a0 a1 a2 aw) (blockOf b b0 b1 b2 bw)))
-      go true = refl
-      go false = refl
-
-  module _ (e : definitions.Edges) (k : kinds.Kind) (shape : Shape) (len : ℕ) (r : Bool) (q : r ≡ overSets (setsFor auto noWidth (blockOf a [] [] [] []) (blockOf b [] [] [] []))) where
-    pub number-7 : r ≡ true → 7 ≡ setsNumber sets e k shape len
-    unfolding setsNumber
-    number-7 t = sym (run-limit (overSets sets) (refusal (setRules sets)) (refusal (pairRules sets)) e k shape len (sym over-same ∙ sym q ∙ t))
-
-    pub number-is : r ≡ false → (n m x : ℕ) → n ≡ refusal (setRules sets) → m ≡ refusal (pairRules (setsFor auto noWidth (blockOf a [] [] [] []) (blockOf b [] [] [] []))) → x ≡ runNumber false n m e k shape len
-        → x ≡ setsNumber sets e k shape len
-    unfolding setsNumber
-    number-is t n m x p o h = h ∙ λ i. runNumber ((sym t ∙ q ∙ over-same) i) (p i) ((o ∙ pairs-same) i) e k shape len
-
--- ---- what follows of it
+-- ---- what follows of the number; x is what a call answered
 module _ (sets : run.Sets) (edges : Edges) (list : List Float) (kind : Kind) (valueEdges : List Float) (op : PairOperation) (shape : Shape) (s : List Float) (x : ℕ)
     (h : x ≡ setsNumber sets (edgesOf edges list) (kindOf kind valueEdges) shape (length s)) where
   abbrev this : Run
   this = setsRun sets edges list kind valueEdges op shape
 
   own-number : x ≡ refusal (runRules this (length s))
-  unfolding setsNumber setsRun
+  unfolding refusals.setsNumber setsRun
   own-number = h ∙ run-number sets (opOf op) (edgesOf edges list) (kindOf kind valueEdges) shape (length s)
 
   pub stays : (x ≡ 0 → ⊥) → s ≡ step this s
@@ -103,7 +75,7 @@ module _ (auto : Bool) (width : blocks.CellWidth) (a b : CartesianBlock) (edges 
     (h : x ≡ setsNumber (setsFor auto width a b) (edgesOf edges list) (kindOf kind valueEdges) shape (length s)) where
   module _ (z : x ≡ 0) where
     all : Accepted (overSets (setsFor auto width a b)) (refusal (setRules (setsFor auto width a b))) (refusal (pairRules (setsFor auto width a b))) (edgesOf edges list) (kindOf kind valueEdges) shape (length s)
-    unfolding setsNumber
+    unfolding refusals.setsNumber
     all = accepted (overSets (setsFor auto width a b)) (refusal (setRules (setsFor auto width a b))) (refusal (pairRules (setsFor auto width a b))) (edgesOf edges list) (kindOf kind valueEdges) shape (length s) (sym h ∙ z)
 
     pub drivable : Drivable (edgesOf edges list) (kindOf kind valueEdges) shape (length s)

@@ -29,12 +29,9 @@ use Rattle.edge_table.specs.Table.{numberOr, quotient}
 use Rattle.edge_table.specs.Tabled.{Usable, Tabled, UsableValues, TabledValues}
 use Rattle.idx_3d_offset.specs.declared.Axes.{Axes}
 use Rattle.idx_3d_offset.specs.Offsets.{Walkable, crossSeq, autoSeq}
-use Rattle.twopoint_cartesian.specs.declared.Block.{Block}
-use Rattle.twopoint_cartesian.specs.declared.CellWidth.{CellWidth}
 use Rattle.twopoint_cartesian.specs.declared.Setup.{Setup}
 use Rattle.twopoint_cartesian.specs.declared.Tables.{Tables}
 use Rattle.twopoint_cartesian.specs.declared.Mean.{Mean}
-use Rattle.twopoint_cartesian.specs.Readings.{blockOf, widthOf, axesOf}
 
 -- a block's three components and its weights
 pub record Fields : Type 0 where

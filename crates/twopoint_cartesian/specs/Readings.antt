@@ -1,7 +1,6 @@
 -- What the parameters of a run over blocks stand for in the definitions.
 use mathlib.Core.List.{List}
 use lib.Ieee.{Float}
-use Rattle.definitions.specs.Blocks as Blocks
 use Rattle.definitions.specs.Blocks.{CartesianBlock}
 use Rattle.definitions.specs.Run.{Sets, oneBlock, twoBlocks, Run}
 use Rattle.reducer.specs.declared.PairOperation.{PairOperation}
@@ -11,30 +10,9 @@ use Rattle.reducer.specs.Readings.{opOf, edgesOf, kindOf}
 use Rattle.parallel_serial.specs.declared.Shape.{Shape}
 use Rattle.parallel_serial.specs.Drive.{runOf}
 use Rattle.idx_3d_offset.specs.declared.Axes.{Axes}
-use Rattle.twopoint_cartesian.specs.declared.Block.{Block}
-use Rattle.twopoint_cartesian.specs.declared.CellWidth.{CellWidth}
-
--- a block, with its components and weights
-abbrev pub blockOf : Block → List Float → List Float → List Float → List Float → CartesianBlock
-blockOf b c0 c1 c2 w =
-    record {
-      nz = b .nz;
-      ny = b .ny;
-      nx = b .nx;
-      sz = b .sz;
-      sy = b .sy;
-      sx = b .sx;
-      gz = b .gz;
-      gy = b .gy;
-      gx = b .gx;
-      comp0 = c0;
-      comp1 = c1;
-      comp2 = c2;
-      weights = w;
-    }
-
-abbrev pub widthOf : CellWidth → Blocks.CellWidth
-widthOf w = record { wz = w .z; wy = w .y; wx = w .x }
+use Rattle.spatial.specs.declared.Block.{Block}
+use Rattle.spatial.specs.declared.CellWidth.{CellWidth}
+use Rattle.spatial.specs.Readings.{widthOf}
 
 abbrev pub axesOf : Block → Axes
 axesOf b = record { z = b .nz; y = b .ny; x = b .nx }

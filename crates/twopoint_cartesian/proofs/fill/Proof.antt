@@ -4,7 +4,8 @@ use Prim.Native.Nat.{_≤_, _-_}
 use native.Mathlib.Omega.{arith}
 use borrow.Author.Needs.{needs}
 use lib.ListN.{length, drop}
-use Rattle.twopoint_cartesian.specs.Readings.{blockOf, widthOf, axesOf}
+use Rattle.spatial.specs.Readings.{blockOf, widthOf}
+use Rattle.twopoint_cartesian.specs.Readings.{axesOf}
 use Rattle.twopoint_cartesian.specs.Cells.{seqFor, offsetsAdded}
 use Rattle.twopoint_cartesian.proofs.Walk.{walk-turn, walk-done, roomy-same}
 use Rattle.twopoint_cartesian.proofs.fill.Statement.{statement}

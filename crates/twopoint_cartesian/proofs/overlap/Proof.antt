@@ -1,6 +1,6 @@
 use Rattle.twopoint_cartesian.proofs.Cells.{overlap-is}
 use mathlib.Core.List.{[]}
-use Rattle.twopoint_cartesian.specs.Readings.{blockOf}
+use Rattle.spatial.specs.Readings.{blockOf}
 use borrow.Author.Needs.{needs}
 use Rattle.twopoint_cartesian.proofs.overlap.Statement.{statement}
 use Rattle.twopoint_cartesian.proofs.overlap.Tie as tie

@@ -5,7 +5,7 @@ use Rattle.twopoint_cartesian.proofs.run.Tie as tie
 use Rattle.twopoint_cartesian.proofs.run.Reads as reads
 use Rattle.twopoint_cartesian.proofs.run.Lts as lts
 use Rattle.twopoint_cartesian.proofs.drive.Reads as drive-reads
-use Rattle.twopoint_cartesian.proofs.run_refusal.Reads as run-refusal-reads
+use Rattle.spatial.proofs.run_refusal.Reads as run-refusal-reads
 
 -- src/lib.rt:848:9
 run-refusal-requires : tie.Need-run-refusal-requires
