@@ -5,7 +5,7 @@ use mathlib.Core.List.{List}
 use Prim.Native.Nat.{ℕ, _≤_}
 use lib.ListN.{length}
 use Rattle.definitions.specs.Records.{programText}
-use Rattle.records.specs.Text.{fitted}
+use Rattle.curve_text.specs.Text.{fitted}
 
 -- r and what the slice holds are the program's text of some bytes of the two files, or of a file that can't be read
 pub record TextOf (entry exit : List ℕ) (r : ℕ) : Type 0 where

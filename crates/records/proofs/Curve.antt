@@ -19,28 +19,33 @@ use Rattle.unstructured_points.specs.declared.Stride.the-variants.{Given}
 use Rattle.unstructured_points.specs.declared.PointSet.{PointSet}
 use Rattle.unstructured_points.specs.Readings.{pointsOf}
 use Rattle.unstructured.specs.Readings.{setsRun, autoRun}
-use Rattle.records.specs.Stores.{stored}
-use Rattle.records.specs.Columns.{numbers, threeNumbers}
+use Rattle.record_bytes.specs.Stores.{stored}
+use Rattle.record_bytes.specs.Columns.{numbers, threeNumbers, edgesRead, threeRead, weightsRead}
 use Rattle.records.specs.Answers.{curveRun, listedCurve, recordCurve}
-use Rattle.records.proofs.Stores.{stored-take}
-use Rattle.records.proofs.Columns.{numbers-length, three-length}
+use Rattle.record_bytes.proofs.Stores.{same-stored, stored-take}
+use Rattle.record_bytes.proofs.Columns.{numbers-length, three-length}
+use Rattle.record_bytes.proofs.Files.{three-read, weights-read}
 use Rattle.records.proofs.Rules.{edges-decoded}
 
 module _ (p : List ℕ) (h : length p ≤ 57344) where
-  three-decoded : (first : ℕ) (z q : List Float) → 3072 ≡ length z → q ≡ stored 0 (threeNumbers first (length p / 56) p) z → take (3 * (length p / 56)) q ≡ threeNumbers first (length p / 56) p
-  three-decoded first z q l e = ap (take (3 * (length p / 56))) e ∙ stored-take (threeNumbers first (length p / 56) p) z (3 * (length p / 56)) (three-length first (length p / 56) p) (omega arith)
+  three-decoded : (first : ℕ) (z q : List Float) → 3072 ≡ length z → q ≡ stored 0 (threeRead first p) z → take (3 * (length p / 56)) q ≡ threeNumbers first (length p / 56) p
+  three-decoded first z q l e =
+      ap (take (3 * (length p / 56))) (same-stored (threeRead first p) (threeNumbers first (length p / 56) p) z q e (sym (three-read p first h)))
+      ∙ stored-take (threeNumbers first (length p / 56) p) z (3 * (length p / 56)) (three-length first (length p / 56) p) (omega arith)
 
-  weights-decoded : (z q : List Float) → 1024 ≡ length z → q ≡ stored 0 (numbers 56 48 (length p / 56) p) z → take (length p / 56) q ≡ column p 6
+  weights-decoded : (z q : List Float) → 1024 ≡ length z → q ≡ stored 0 (weightsRead p) z → take (length p / 56) q ≡ column p 6
   unfolding numbers
-  weights-decoded z q l e = ap (take (length p / 56)) e ∙ stored-take (numbers 56 48 (length p / 56) p) z (length p / 56) (numbers-length 56 48 (length p / 56) p) (omega arith)
+  weights-decoded z q l e =
+      ap (take (length p / 56)) (same-stored (weightsRead p) (numbers 56 48 (length p / 56) p) z q e (sym (weights-read p h)))
+      ∙ stored-take (numbers 56 48 (length p / 56) p) z (length p / 56) (numbers-length 56 48 (length p / 56) p) (omega arith)
 
   module _ (x y w q r t : List Float) (a : 3072 ≡ length x) (b : 3072 ≡ length y) (c : 1024 ≡ length w) where
-    pub records-curve : (list pack s : List Float) → q ≡ stored 0 (threeNumbers 0 (length p / 56) p) x → r ≡ stored 0 (threeNumbers 24 (length p / 56) p) y → t ≡ stored 0 (numbers 56 48 (length p / 56) p) w
+    pub records-curve : (list pack s : List Float) → q ≡ stored 0 (threeRead 0 p) x → r ≡ stored 0 (threeRead 24 p) y → t ≡ stored 0 (weightsRead p) w
         → s ≡ listedCurve (length p / 56) (take (3 * (length p / 56)) q) (take (3 * (length p / 56)) r) (take (length p / 56) t) list pack → s ≡ recordCurve p list pack
     unfolding numbers threeNumbers listedCurve recordCurve
     records-curve list pack s d e f g = g ∙ (λ j. listedCurve (length p / 56) (three-decoded 0 x q a d j) (three-decoded 24 y r b e j) (weights-decoded w t c f j) list pack)
 
-pub files-curve : (p e : List ℕ) (z q pack r : List Float) → length e ≤ 2056 → 257 ≡ length z → q ≡ stored 0 (numbers 8 0 (length e / 8) e) z → pack ≡ replicate (curveBins e * 2) (zeroF false)
+pub files-curve : (p e : List ℕ) (z q pack r : List Float) → length e ≤ 2056 → 257 ≡ length z → q ≡ stored 0 (edgesRead e) z → pack ≡ replicate (curveBins e * 2) (zeroF false)
     → r ≡ recordCurve p (take (length e / 8) q) pack → r ≡ curvePack p e
 unfolding recordCurve entryRun curvePack
 files-curve p e z q pack r h l f g k = k ∙ (λ j. recordCurve p (edges-decoded e h z q l f j) (g j))

@@ -1,7 +1,3 @@
-pub mod Stores
-pub mod Numbers
-pub mod Columns
-pub mod Lines
 pub mod Rules
 pub mod Curve
 pub mod Outcomes

@@ -1,26 +1,27 @@
 -- What the entry and the text come to in each case.
 use mathlib.Core.Path.{_≡_, refl, sym, ap, _∙_, subst}
 use mathlib.Core.Bool.{Bool, true, false, not, cond, _&&_, _||_}
-use mathlib.Core.List.{List, [], _∷_, _++_}
+use mathlib.Core.List.{List, [], _∷_}
 use Prim.Native.Nat.{ℕ, zero, suc, _+_, _-_, _*_, _/_, _≤_, _<_}
 use native.Mathlib.Nat.{mul-comm}
 use native.Mathlib.Omega.{arith}
 use lib.Dec.{T, ltb, eqb, ltb→lt}
-use lib.ListN.{length, take, drop, replicate, length-replicate, length-append}
+use lib.ListN.{length, take, replicate, length-replicate, length-append}
 use lib.Seq.{length-take-le}
 use lib.Ieee.{Float}
 use lib.Ieee.Fits.{and-l, and-r}
-use borrow.Author.Tests.{le-leb, lt-leb, eq-eqb, ne-eqb, ltb-false}
+use borrow.Author.Tests.{eq-eqb, ne-eqb, ltb-false}
 use Rattle.definitions.specs.Floats.{zeroF}
 use Rattle.definitions.specs.Rules.{Rule, rule, refusal}
 use Rattle.laws.proofs.Refusals.{orElse, refusal-append}
 use Rattle.definitions.specs.Records.{curveBins, curveBytes, curveLines, curvePack, curveRules, entryRules, entryOutput, refusedLine, printed, curveText, programText}
-use Rattle.records.specs.Stores.{stored}
-use Rattle.records.specs.Columns.{curveRecords}
-use Rattle.records.specs.Text.{linesText, refusedText, fitted}
+use Rattle.record_bytes.specs.Stores.{stored}
+use Rattle.record_bytes.specs.Columns.{curveRecords}
+use Rattle.curve_text.specs.Text.{linesText, refusedText, linesFitting, refusedFitting, fitted}
 use Rattle.records.specs.Answers.{curveNumber, zeroPack, outputBytes, outputLines, Fresh, fileRead}
-use Rattle.records.proofs.Stores.{stored-front, stored-take, stored-whole}
-use Rattle.records.proofs.Columns.{records-length}
+use Rattle.record_bytes.proofs.Stores.{stored-take, stored-whole}
+use Rattle.record_bytes.proofs.Columns.{records-length}
+use Rattle.curve_text.proofs.Fitting.{lines-fit, refused-fit}
 
 -- ---- within the limits, and zeros for the bins
 seven : (a b : Bool) (m : ℕ) → _≡_ {A = ℕ} (cond (a || b) 7 m) 0 → (a ≡ false) × (b ≡ false)
@@ -101,19 +102,12 @@ curve-written p e n q s r b h f g = g ∙ stored-whole (curveRecords n n q) s (r
 
 -- ---- the text
 -- what is known of one text, of another that equals it
-module _ (t u : List ℕ) where
-  pub same-count : (r : ℕ) → r ≡ length t → t ≡ u → r ≡ length u
-  same-count r f e = f ∙ ap length e
+pub same-fitted : (t u s r : List ℕ) → r ≡ fitted t s → t ≡ u → r ≡ fitted u s
+same-fitted t u s r f e = f ∙ ap (λ (l : List ℕ). fitted l s) e
 
-  pub same-stored : (s r : List ℕ) → r ≡ stored 0 t s → t ≡ u → r ≡ stored 0 u s
-  same-stored s r f e = f ∙ ap (λ (l : List ℕ). stored 0 l s) e
-
-  pub same-fitted : (s r : List ℕ) → r ≡ fitted t s → t ≡ u → r ≡ fitted u s
-  same-fitted s r f e = f ∙ ap (λ (l : List ℕ). fitted l s) e
-
-pub lines-are : (p e : List ℕ) (n : ℕ) (q : List Float) → n ≡ curveBins e → q ≡ curvePack p e → linesText n n q ≡ outputLines p e
+pub lines-are : (p e : List ℕ) (n : ℕ) (q : List Float) (m : ℕ) → n ≡ curveBins e → q ≡ curvePack p e → n ≤ 256 → n * 2 ≤ length q → 9728 ≤ m → linesFitting n q m ≡ outputLines p e
 unfolding linesText outputLines
-lines-are p e n q b f = λ j. curveLines (b j) (f j)
+lines-are p e n q m b f h g k = sym (lines-fit n q m (omega arith) g (omega arith)) ∙ (λ j. curveLines (b j) (f j))
 
 smallNumbers : List Rule → Bool
 smallNumbers [] = true
@@ -133,29 +127,25 @@ module _ (p e : List ℕ) (r : ℕ) (f : r ≡ curveNumber p e) where
   unfolding curveNumber smallNumbers
   number-small = subst (λ (k : ℕ). k < 1000) (sym f) (refusal-small (curveRules p e) tt)
 
-  pub text-refused : (r ≡ 0 → ⊥) → refusedText r ≡ curveText p e
+  pub text-refused : (m : ℕ) → 9728 ≤ m → (r ≡ 0 → ⊥) → refusedFitting r m ≡ curveText p e
   unfolding refusedText curveText curveNumber
-  text-refused h =
-      sym (ap (λ (b : Bool). cond b (curveLines (curveBins e) (curvePack p e)) (refusedLine r)) (ne-eqb r 0 h)) ∙ ap (λ (m : ℕ). printed m (curveLines (curveBins e) (curvePack p e))) f
+  text-refused m g h =
+      sym (refused-fit r m number-small (omega arith))
+      ∙ sym (ap (λ (b : Bool). cond b (curveLines (curveBins e) (curvePack p e)) (refusedLine r)) (ne-eqb r 0 h)) ∙ ap (λ (m : ℕ). printed m (curveLines (curveBins e) (curvePack p e))) f
 
   pub text-lines : r ≡ 0 → outputLines p e ≡ curveText p e
   unfolding outputLines curveText curveNumber
   text-lines g = ap (λ (m : ℕ). printed m (curveLines (curveBins e) (curvePack p e))) (sym g ∙ f)
 
 -- ---- a text in a lent slice
-pub fits : (t s r : List ℕ) → length t ≤ length s → r ≡ stored 0 t s → r ≡ fitted t s
-unfolding fitted
-fits t s r h e = rw (le-leb (length t) (length s) h) (e ∙ stored-front t s h)
-
-pub too-short : (t s : List ℕ) → length s < length t → s ≡ fitted t s
-unfolding fitted
-too-short t s h = rw (lt-leb (length t) (length s) h)
-
 -- a local array's front, copied
 pub front-fitted : (t z q s r : List ℕ) (n m : ℕ) → n ≡ length t → n ≤ m → m ≡ length z → q ≡ stored 0 t z → r ≡ fitted (take n q) s → r ≡ fitted t s
 front-fitted t z q s r n m e h k f g = g ∙ ap (λ (l : List ℕ). fitted l s) (ap (take n) f ∙ stored-take t z n (sym e) (omega arith))
 
 -- ---- what the program prints
+pub unread-line : refusedFitting 28 12 ≡ refusedText 28
+unread-line = sym (refused-fit 28 12 (omega arith) (omega arith))
+
 module _ (a b : Bool) (p e : List ℕ) where
   pub no-points : a ≡ false → refusedText 28 ≡ programText (fileRead a p) (fileRead b e)
   unfolding refusedText

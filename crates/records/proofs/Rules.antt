@@ -13,11 +13,12 @@ use Rattle.definitions.specs.Bins.{bins, irregular}
 use Rattle.definitions.specs.Points.{UnstructuredPoints}
 use Rattle.definitions.specs.Rules.{Rule, refusal, pointRules, irregularRules, edgesCallRules}
 use Rattle.definitions.specs.Records.{floatAt, column, recordPoints, recordEdges, curveBins, curveRules}
-use Rattle.records.specs.Stores.{stored}
-use Rattle.records.specs.Columns.{numbers}
+use Rattle.record_bytes.specs.Stores.{stored}
+use Rattle.record_bytes.specs.Columns.{numbers, edgesRead}
 use Rattle.records.specs.Answers.{curveNumber}
-use Rattle.records.proofs.Stores.{stored-take}
-use Rattle.records.proofs.Columns.{numbers-length}
+use Rattle.record_bytes.proofs.Stores.{same-stored, stored-take}
+use Rattle.record_bytes.proofs.Columns.{numbers-length}
+use Rattle.record_bytes.proofs.Files.{edges-read}
 
 -- ---- edges
 pub edges-are : (b : List ℕ) → numbers 8 0 (length b / 8) b ≡ recordEdges b
@@ -28,11 +29,13 @@ pub edges-length : (b : List ℕ) → length (recordEdges b) ≡ length b / 8
 edges-length b = sym (ap length (edges-are b)) ∙ numbers-length 8 0 (length b / 8) b
 
 module _ (e : List ℕ) (h : length e ≤ 2056) where
-  pub edges-decoded : (z q : List Float) → 257 ≡ length z → q ≡ stored 0 (numbers 8 0 (length e / 8) e) z → take (length e / 8) q ≡ recordEdges e
-  edges-decoded z q l f = ap (take (length e / 8)) f ∙ stored-take (numbers 8 0 (length e / 8) e) z (length e / 8) (numbers-length 8 0 (length e / 8) e) (omega arith) ∙ edges-are e
+  pub edges-decoded : (z q : List Float) → 257 ≡ length z → q ≡ stored 0 (edgesRead e) z → take (length e / 8) q ≡ recordEdges e
+  edges-decoded z q l f =
+      ap (take (length e / 8)) (same-stored (edgesRead e) (numbers 8 0 (length e / 8) e) z q f (sym (edges-read e h)))
+      ∙ stored-take (numbers 8 0 (length e / 8) e) z (length e / 8) (numbers-length 8 0 (length e / 8) e) (omega arith) ∙ edges-are e
 
   -- 7 is never met
-  pub edges-number : (z q : List Float) (r : ℕ) → 257 ≡ length z → q ≡ stored 0 (numbers 8 0 (length e / 8) e) z → r ≡ refusal (edgesCallRules (irregular (take (length e / 8) q))) → r ≡ refusal (irregularRules (recordEdges e))
+  pub edges-number : (z q : List Float) (r : ℕ) → 257 ≡ length z → q ≡ stored 0 (edgesRead e) z → r ≡ refusal (edgesCallRules (irregular (take (length e / 8) q))) → r ≡ refusal (irregularRules (recordEdges e))
   unfolding bins
   edges-number z q r l f g = g ∙ ap (λ (s : List Float). refusal (edgesCallRules (irregular s))) (edges-decoded z q l f) ∙ rw (le-ltb 256 (length (recordEdges e) - 1) (omega (arith, edges-length e)))
 

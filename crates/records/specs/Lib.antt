@@ -1,5 +1,2 @@
 -- What this crate's contracts cite besides the definitions.
-pub mod Stores
-pub mod Columns
-pub mod Text
 pub mod Answers

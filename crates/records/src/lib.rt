@@ -1,8 +1,9 @@
-// Record files: points, edges and curves as bytes, and the text of a curve.
-mod bytes;
-mod text;
-
+// Record files: the curve of points and edges as bytes, and its text.
 use parallel_serial::Shape;
+use record_bytes::EDGE_BYTES;
+use record_bytes::MAX_EDGES;
+use record_bytes::MAX_POINTS;
+use record_bytes::POINT_BYTES;
 use reducer::Edges;
 use reducer::Kind;
 use reducer::PairOperation;
@@ -17,16 +18,8 @@ ghost use Rattle.definitions.specs.Bins.{bins, irregular};
 ghost use Rattle.definitions.specs.Rules.{refusal, irregularRules};
 ghost use Rattle.definitions.specs.Records.{recordEdges, curveBins, curvePack, entryRules, entryOutput, curveText, programText};
 ghost use Rattle.records.specs.Answers.{curveNumber, zeroPack, listedCurve, recordCurve, outputBytes, outputLines, Fresh, fileRead};
-ghost use Rattle.records.specs.Stores.{stored};
-ghost use Rattle.records.specs.Text.{refusedText, fitted};
-
-const POINT_BYTES: usize = 56;
-
-const EDGE_BYTES: usize = 8;
-
-const MAX_POINTS: usize = 1024;
-
-const MAX_EDGES: usize = 257;
+ghost use Rattle.record_bytes.specs.Stores.{stored};
+ghost use Rattle.curve_text.specs.Text.{refusedText, fitted};
 
 // ---- refusals
 
@@ -43,7 +36,7 @@ fn edges_refusal(edges: &[u8]) -> u32
 {
     let n = edges.len() / EDGE_BYTES;
     let mut list = edge_numbers();
-    bytes::decode(edges, EDGE_BYTES, 0, n, &mut list, 0);
+    record_bytes::decode_edges(edges, &mut list);
     parallel_serial::edges_refusal(Edges::Irregular, &list[..n])
 }
 
@@ -139,9 +132,7 @@ fn run_records(points: &[u8], list: &[f64], pack: &mut [f64])
     let mut positions = point_numbers();
     let mut values = point_numbers();
     let mut weights = weight_numbers();
-    bytes::decode_three(points, 0, n, &mut positions);
-    bytes::decode_three(points, 24, n, &mut values);
-    bytes::decode(points, POINT_BYTES, 48, n, &mut weights, 0);
+    record_bytes::decode_points(points, &mut positions, &mut values, &mut weights);
     run(
         &positions[..3 * n],
         &values[..3 * n],
@@ -159,7 +150,7 @@ fn fill_pack(points: &[u8], edges: &[u8], pack: &mut [f64])
 {
     let m = edges.len() / EDGE_BYTES;
     let mut list = edge_numbers();
-    bytes::decode(edges, EDGE_BYTES, 0, m, &mut list, 0);
+    record_bytes::decode_edges(edges, &mut list);
     run_records(points, &list[..m], pack);
 }
 
@@ -172,7 +163,7 @@ fn write_curve(points: &[u8], edges: &[u8], n: usize, pack: &mut [f64], output: 
     ensures { λ _. ⌜ now (output .exit) ≡ outputBytes (now (points .entry)) (now (edges .entry)) ⌝ }
 {
     fill_pack(points, edges, pack);
-    bytes::encode(pack, n, output);
+    record_bytes::encode_curve(pack, n, output);
 }
 
 // The curve's records in place of the output's bytes; answers the refusal's number, or 0.
@@ -211,7 +202,7 @@ fn write_lines(points: &[u8], edges: &[u8], n: usize, pack: &mut [f64], out: &mu
     ensures { λ _. ⌜ now (out .exit) ≡ stored 0 (outputLines (now (points .entry)) (now (edges .entry))) (now (out .entry)) ⌝ }
 {
     fill_pack(points, edges, pack);
-    text::put_lines(out, pack, n)
+    curve_text::curve_lines(out, pack, n)
 }
 
 // The text of the two files at the front of out; answers its length.
@@ -222,7 +213,7 @@ fn write_text(points: &[u8], edges: &[u8], out: &mut [u8]) -> usize
 {
     let number = curve_refusal(points, edges);
     if number != 0 {
-        return text::put_refused(out, number as usize);
+        return curve_text::refused_line(out, number as usize);
     }
     let n = n_bins(edges);
     let mut pack = zero_pack();
@@ -236,7 +227,7 @@ pub fn curve_text(points: &[u8], edges: &[u8], out: &mut [u8]) -> usize
 {
     let mut text = text_bytes();
     let n = write_text(points, edges, &mut text);
-    text::put_fitting(&text[..n], out);
+    curve_text::put_fitting(&text[..n], out);
     n
 }
 
@@ -246,8 +237,8 @@ fn unreadable_text(out: &mut [u8]) -> usize
     ensures { λ _. ⌜ now (out .exit) ≡ fitted (refusedText 28) (now (out .entry)) ⌝ }
 {
     let mut line = [0u8; 12];
-    let n = text::put_refused(&mut line, 28);
-    text::put_fitting(&line[..n], out);
+    let n = curve_text::refused_line(&mut line, 28);
+    curve_text::put_fitting(&line[..n], out);
     n
 }
 

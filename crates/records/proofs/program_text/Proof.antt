@@ -1,5 +1,6 @@
 use native.Mathlib.Omega.{arith}
-use Rattle.records.proofs.Outcomes.{same-count, same-fitted, no-points, no-edges, both-files}
+use Rattle.record_bytes.proofs.Stores.{same-count}
+use Rattle.records.proofs.Outcomes.{same-fitted, no-points, no-edges, both-files}
 use borrow.Author.Needs.{needs}
 use Rattle.records.proofs.program_text.Statement.{statement}
 use Rattle.records.proofs.program_text.Tie as tie

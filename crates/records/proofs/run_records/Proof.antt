@@ -14,23 +14,8 @@ point-numbers-requires-2 c κs = search needs
 weight-numbers-requires : tie.Need-weight-numbers-requires
 weight-numbers-requires c κs = search needs
 
-slice-aggregate-decode-three : tie.Need-slice-aggregate-decode-three
-slice-aggregate-decode-three c = search needs
-
-decode-three-requires : tie.Need-decode-three-requires
-decode-three-requires c κs = search needs
-
-slice-aggregate-decode-three-2 : tie.Need-slice-aggregate-decode-three-2
-slice-aggregate-decode-three-2 c = search needs
-
-decode-three-requires-2 : tie.Need-decode-three-requires-2
-decode-three-requires-2 c κs = search needs
-
-slice-aggregate-decode : tie.Need-slice-aggregate-decode
-slice-aggregate-decode c = search needs
-
-decode-requires : tie.Need-decode-requires
-decode-requires c κs = search needs
+decode-points-requires : tie.Need-decode-points-requires
+decode-points-requires c κs = search needs
 
 mul-positions : tie.Need-mul-positions
 mul-positions c = search needs
@@ -63,15 +48,7 @@ same-length : tie.Need-same-length
 same-length c = search needs
 
 returns : tie.Need-returns
-returns c =
-    let run = c .before .before in
-    let weights = run .before .before .before .before .before .before in
-    let values = weights .before .before .before in
-    let positions = values .before .before .before in
-    let room = positions .before .before in
-    records-curve _ (room .before .before .before .before .before .before .pre) _ _ _ _ _ _
-    (room .before .before .point-numbers .ensures) (room .before .point-numbers2 .ensures) (room .weight-numbers .ensures)
-    _ _ _ (positions .decode-three .ensures) (values .decode-three2 .ensures) (weights .decode .ensures) (run .run .ensures)
+returns c = search records-curve
 
 pub run-records-spec : {M : Type 1} → statement M
 run-records-spec =
@@ -80,12 +57,7 @@ run-records-spec =
     point-numbers-requires
     point-numbers-requires-2
     weight-numbers-requires
-    slice-aggregate-decode-three
-    decode-three-requires
-    slice-aggregate-decode-three-2
-    decode-three-requires-2
-    slice-aggregate-decode
-    decode-requires
+    decode-points-requires
     mul-positions
     array-share-prefix-positions
     slice-aggregate-run

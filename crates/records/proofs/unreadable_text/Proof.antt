@@ -1,15 +1,16 @@
 use native.Mathlib.Omega.{arith}
 use lib.ListN.{length-take}
-use Rattle.records.proofs.Outcomes.{front-fitted}
+use Rattle.record_bytes.proofs.Stores.{same-count}
+use Rattle.records.proofs.Outcomes.{front-fitted, unread-line, same-fitted}
 use borrow.Author.Needs.{needs}
 use Rattle.records.proofs.unreadable_text.Statement.{statement}
 use Rattle.records.proofs.unreadable_text.Tie as tie
 
-slice-aggregate-put-refused : tie.Need-slice-aggregate-put-refused
-slice-aggregate-put-refused c = search needs
+slice-aggregate-refused-line : tie.Need-slice-aggregate-refused-line
+slice-aggregate-refused-line c = search needs
 
-put-refused-requires : tie.Need-put-refused-requires
-put-refused-requires c κs = search needs
+refused-line-requires : tie.Need-refused-line-requires
+refused-line-requires c κs = search needs
 
 array-share-prefix-line : tie.Need-array-share-prefix-line
 array-share-prefix-line c = search needs
@@ -24,14 +25,14 @@ same-length : tie.Need-same-length
 same-length c = search needs
 
 returns : tie.Need-returns
-returns c = (search needs, search front-fitted)
+returns c = ((search (same-count, unread-line), search needs), same-fitted _ _ _ _ (search front-fitted) unread-line)
 
 pub unreadable-text-spec : {M : Type 1} → statement M
 unreadable-text-spec =
     tie.close
     (tie.spec
-    slice-aggregate-put-refused
-    put-refused-requires
+    slice-aggregate-refused-line
+    refused-line-requires
     array-share-prefix-line
     slice-aggregate-put-fitting
     put-fitting-requires

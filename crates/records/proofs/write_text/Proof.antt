@@ -1,5 +1,6 @@
 use native.Mathlib.Omega.{arith}
-use Rattle.records.proofs.Outcomes.{pack-holds, pack-part, pack-fresh, number-small, same-count, same-stored, text-refused, text-lines}
+use Rattle.record_bytes.proofs.Stores.{same-count, same-stored}
+use Rattle.records.proofs.Outcomes.{pack-holds, pack-part, pack-fresh, text-refused, text-lines}
 use borrow.Author.Needs.{needs}
 use Rattle.records.proofs.write_text.Statement.{statement}
 use Rattle.records.proofs.write_text.Tie as tie
@@ -7,11 +8,11 @@ use Rattle.records.proofs.write_text.Tie as tie
 curve-refusal-requires : tie.Need-curve-refusal-requires
 curve-refusal-requires c κs = search needs
 
-cast-put-refused : tie.Need-cast-put-refused
-cast-put-refused c = search needs
+cast-refused-line : tie.Need-cast-refused-line
+cast-refused-line c = search needs
 
-put-refused-requires : tie.Need-put-refused-requires
-put-refused-requires c κs = (search number-small, omega arith)
+refused-line-requires : tie.Need-refused-line-requires
+refused-line-requires c κs = search needs
 
 same-length : tie.Need-same-length
 same-length c = search needs
@@ -48,8 +49,8 @@ write-text-spec =
     tie.close
     (tie.spec
     curve-refusal-requires
-    cast-put-refused
-    put-refused-requires
+    cast-refused-line
+    refused-line-requires
     same-length
     returns
     n-bins-requires

@@ -1,0 +1,4 @@
+pub mod Stores
+pub mod Numbers
+pub mod Columns
+pub mod Files

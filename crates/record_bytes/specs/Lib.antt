@@ -1,0 +1,3 @@
+-- What this crate's contracts cite besides the definitions.
+pub mod Stores
+pub mod Columns
