@@ -16,7 +16,7 @@ use Rattle.laws.proofs.Loops.{loopLeft, runOn, loop3}
 use Rattle.laws.proofs.Places.{foldPack}
 use Rattle.idx_3d_offset.specs.declared.Axes.{Axes}
 use Rattle.idx_3d_offset.specs.declared.Idx3DOffset.{Idx3DOffset}
-use Rattle.idx_3d_offset.specs.Offsets.{idxOf, Within, Reach}
+use Rattle.idx_3d_offset.specs.Offsets.{idxOf, Within, Reach, Walkable}
 use Rattle.twopoint_cartesian.specs.declared.Setup.{Setup}
 use Rattle.twopoint_cartesian.specs.Cells.{Fields, RowFits, PlaneFits, BlockFits, Near, AllNear, Ready, Placed, fieldsIn, firstA, firstB, overlapOf, cellsAdded, rowAdded, planeAdded, blockAdded, pairStep, offsetCells}
 use Rattle.twopoint_cartesian.proofs.Distance.{back}
@@ -58,6 +58,14 @@ axis-near : (L M : ℕ) (d : ℤ) → Within L M d → L ≤ 64 → M ≤ 64 →
 axis-near L M (pos n) w h k = record { near = omega arith }
 axis-near L M (negsuc m) w h k = record { near = omega arith }
 
+pub axes-near : (a b : Axes) → Walkable a → Walkable b → (d : blocks.Idx3DOffset) → Reach a b d → AllNear (d .dz) (d .dy) (d .dx)
+axes-near a b ha hb d r =
+    record {
+      z-near = axis-near (a .z) (b .z) (d .dz) (r .z-axis) (ha .z-axis .most) (hb .z-axis .most);
+      y-near = axis-near (a .y) (b .y) (d .dy) (r .y-axis) (ha .y-axis .most) (hb .y-axis .most);
+      x-near = axis-near (a .x) (b .x) (d .dx) (r .x-axis) (ha .x-axis .most) (hb .x-axis .most);
+    }
+
 pub count-a : (L M : ℕ) (d : ℤ) → Within L M d → startA d + count L M d ≤ L
 count-a L M (pos n) w = omega arith
 count-a L M (negsuc m) w = omega arith
@@ -89,12 +97,7 @@ module _ (b : CartesianBlock) (h : Ready b) (s : Cell) (n : Axes) (hz : s .z + n
 module _ (a b : CartesianBlock) (ha : Ready a) (hb : Ready b) (d : blocks.Idx3DOffset)
     (r : Reach (record { z = a .nz; y = a .ny; x = a .nx }) (record { z = b .nz; y = b .ny; x = b .nx }) d) where
   pub reach-near : AllNear (d .dz) (d .dy) (d .dx)
-  reach-near =
-      record {
-        z-near = axis-near (a .nz) (b .nz) (d .dz) (r .z-axis) (ha .axes .z-axis .most) (hb .axes .z-axis .most);
-        y-near = axis-near (a .ny) (b .ny) (d .dy) (r .y-axis) (ha .axes .y-axis .most) (hb .axes .y-axis .most);
-        x-near = axis-near (a .nx) (b .nx) (d .dx) (r .x-axis) (ha .axes .x-axis .most) (hb .axes .x-axis .most);
-      }
+  reach-near = axes-near (record { z = a .nz; y = a .ny; x = a .nx }) (record { z = b .nz; y = b .ny; x = b .nx }) (ha .axes) (hb .axes) d r
 
   pub placed-a : Placed (a .sz) (a .sy) (a .sx) (firstA d)
   placed-a =
@@ -157,7 +160,8 @@ offset-cells setup valueEdges a b ea eb d s =
     (count (a .nz) (b .nz) (d .dz)) (count (a .ny) (b .ny) (d .dy)) (count (a .nx) (b .nx) (d .dx)) s
     ∙ fold-run (pairStep setup valueEdges a b) (cellPairs a b d) s
 
-pub cells-done : (setup : Setup) (valueEdges : List Float) (a b : CartesianBlock) → Ready a → Ready b → (d : blocks.Idx3DOffset) (s q : List Float) (i j : ℕ) (n : Axes) → i ≡ cellIndex a (firstA d) → j ≡ cellIndex b (firstB d)
-    → n ≡ overlapOf a b d → q ≡ blockAdded setup valueEdges (fieldsIn a) (fieldsIn b) i j (a .sy) (b .sy) (a .sz) (b .sz) (n .x) (n .y) 0 (n .z) s → q ≡ offsetCells setup valueEdges a b d s
-cells-done setup valueEdges a b ha hb d s q i j n ei ej en e =
-    e ∙ (λ t. blockAdded setup valueEdges (fieldsIn a) (fieldsIn b) (ei t) (ej t) (a .sy) (b .sy) (a .sz) (b .sz) (en t .x) (en t .y) 0 (en t .z) s) ∙ offset-cells setup valueEdges a b (ha .x-stride) (hb .x-stride) d s
+-- z is what the state held before
+pub cells-done : (setup : Setup) (valueEdges : List Float) (a b : CartesianBlock) → Ready a → Ready b → (d : blocks.Idx3DOffset) (s z q : List Float) (i j : ℕ) (n : Axes) → i ≡ cellIndex a (firstA d) → j ≡ cellIndex b (firstB d)
+    → n ≡ overlapOf a b d → s ≡ z → q ≡ blockAdded setup valueEdges (fieldsIn a) (fieldsIn b) i j (a .sy) (b .sy) (a .sz) (b .sz) (n .x) (n .y) 0 (n .z) s → q ≡ offsetCells setup valueEdges a b d z
+cells-done setup valueEdges a b ha hb d s z q i j n ei ej en es e =
+    e ∙ (λ t. blockAdded setup valueEdges (fieldsIn a) (fieldsIn b) (ei t) (ej t) (a .sy) (b .sy) (a .sz) (b .sz) (en t .x) (en t .y) 0 (en t .z) (es t)) ∙ offset-cells setup valueEdges a b (ha .x-stride) (hb .x-stride) d z

@@ -4,7 +4,6 @@ pub mod Loops
 pub mod Means
 pub mod Cells
 pub mod Merge
-pub mod Sure
 pub mod Rows
 pub mod Walk
 pub mod Placewise

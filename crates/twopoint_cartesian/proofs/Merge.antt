@@ -1,5 +1,5 @@
 -- A state of zeros, its merge into its bin, and one offset's part of a run. Assumes nothing.
-use mathlib.Core.Path.{_≡_, refl, sym, ap, _∙_}
+use mathlib.Core.Path.{_≡_, refl, ap, _∙_}
 use mathlib.Core.Option.{Option, none, some, Option·some-injective, Option·none-ne-some}
 use mathlib.Core.Bool.{Bool, true, false, cond}
 use mathlib.Core.List.{List, [], _∷_, _++_, map}
@@ -15,17 +15,14 @@ use Rattle.definitions.specs.Lists.{at, range, upto, overwritten}
 use Rattle.definitions.specs.Floats.{zeroF}
 use Rattle.definitions.specs.Bins.{below}
 use Rattle.definitions.specs.Blocks as blocks
-use Rattle.definitions.specs.Blocks.{CartesianBlock, Cell, cellPairs, distanceSquared}
+use Rattle.definitions.specs.Blocks.{CartesianBlock, Cell, cellPairs}
 use Rattle.definitions.specs.Run.{place}
 use Rattle.laws.proofs.Places.{foldPack, bump, overwritten-turn}
-use Rattle.bins.specs.declared.BinIndex.{BinIndex}
-use Rattle.bins.specs.declared.BinIndex.the-variants.{At, None}
-use Rattle.bins.specs.Answers.{indexOf}
 use Rattle.reducer.proofs.Placewise.{consumed-length}
 use Rattle.reducer.specs.Consume.{builtBins, builtFind, builtBin}
 use Rattle.twopoint_cartesian.specs.declared.Setup.{Setup}
 use Rattle.twopoint_cartesian.specs.declared.Mean.{Mean}
-use Rattle.twopoint_cartesian.specs.Cells.{fresh, cellsAdded, pairStep, stateMerged, Room, Roomy, mergedIn, meanState, offsetCells, offsetAdded}
+use Rattle.twopoint_cartesian.specs.Cells.{fresh, cellsAdded, pairStep, stateMerged, Room, Roomy, mergedIn, meanState, offsetCells}
 use Rattle.twopoint_cartesian.proofs.Loops.{left-turn, left-done}
 
 -- ---- zeros
@@ -97,27 +94,14 @@ module _ (setup : Setup) (valueEdges : List Float) (a b : CartesianBlock) where
   unfolding offsetCells fresh
   cells-length d n = fold-length (pairStep setup valueEdges a b) pair-length (cellPairs a b d) (replicate n (zeroF false)) ∙ length-replicate n (zeroF false)
 
-pub bin-room : (setup : Setup) (list valueEdges : List Float) (size : ℕ) (x : Float) (r : BinIndex) → indexOf r ≡ builtBin (setup .edges) list x → (bin len : ℕ) → r ≡ At bin → Roomy setup list valueEdges size len
-    → Room (setup .«n_states») bin size len
+pub bin-room : (setup : Setup) (list valueEdges : List Float) (size : ℕ) (x : Float) (bin len : ℕ) → builtBin (setup .edges) list x ≡ some bin → Roomy setup list valueEdges size len → Room (setup .«n_states») bin size len
 unfolding builtBin
-bin-room setup list valueEdges size x r h bin len e k =
-    let l = below-found (builtBins (setup .edges) (length list)) (builtFind (setup .edges) list x) bin (sym h ∙ ap indexOf e) in
+bin-room setup list valueEdges size x bin len h k =
+    let l = below-found (builtBins (setup .edges) (length list)) (builtFind (setup .edges) list x) bin h in
     record { few = k .few; small = k .small; state = omega (arith, k .states); pack = k .pack }
 
-module _ (setup : Setup) (list valueEdges : List Float) (width : blocks.CellWidth) (a b : CartesianBlock) (size : ℕ) (d : blocks.Idx3DOffset)
-    (r : BinIndex) (h : indexOf r ≡ builtBin (setup .edges) list (distanceSquared width a b d)) where
-  pub offset-kept : (bin : ℕ) (s q : List Float) → r ≡ At bin → q ≡ mergedIn (some bin) (setup .«n_states») (offsetCells setup valueEdges a b d (fresh size)) s → q ≡ offsetAdded setup list valueEdges width a b size d s
-  unfolding offsetAdded
-  offset-kept bin s q e g = g ∙ λ t. mergedIn ((sym (ap indexOf e) ∙ h) t) (setup .«n_states») (offsetCells setup valueEdges a b d (fresh size)) s
-
-  pub offset-dropped : (s : List Float) → r ≡ None → s ≡ offsetAdded setup list valueEdges width a b size d s
-  unfolding offsetAdded
-  offset-dropped s e = λ t. mergedIn ((sym (ap indexOf e) ∙ h) t) (setup .«n_states») (offsetCells setup valueEdges a b d (fresh size)) s
-
--- a state as it was summed
-pub state-room : (setup : Setup) (valueEdges : List Float) (a b : CartesianBlock) (d : blocks.Idx3DOffset) (n bin size len : ℕ) (state : List Float) → state ≡ offsetCells setup valueEdges a b d (fresh size) → Room n bin size len
-    → Room n bin (length state) len
-state-room setup valueEdges a b d n bin size len state f r = rw (ap length f ∙ cells-length setup valueEdges a b d size) r
+pub room-sized : (n bin size len k : ℕ) → k ≡ size → Room n bin size len → Room n bin k len
+room-sized n bin size len k e r = rw e r
 
 pub state-merged : (n bin : ℕ) (state t s q : List Float) → state ≡ t → q ≡ stateMerged n bin state 0 (length state) s → q ≡ mergedIn (some bin) n t s
 state-merged n bin state t s q f g = g ∙ ap (λ (x : List Float). mergedIn (some bin) n x s) f

@@ -1,4 +1,4 @@
--- A histogram's rows: values and weights of a row's pairs, their bins, and the weights added, are the cells added in order. Assumes nothing.
+-- A histogram's rows: the values of a row's pairs, their bins, and the weights added, are the cells added in order. Assumes nothing.
 use mathlib.Core.Path.{_≡_, refl, sym, ap, _∙_}
 use mathlib.Core.Option.{Option, none, some}
 use mathlib.Core.Bool.{false, cond}
@@ -7,9 +7,9 @@ use Prim.Native.Nat.{ℕ, zero, suc, _+_, _-_, _*_, _<_, _≤_}
 use native.Mathlib.Nat.{sub-zero}
 use native.Mathlib.Omega.{arith}
 use lib.Dec.{T, ltb}
-use lib.ListN.{length, getD, set, take, length-replicate}
+use lib.ListN.{length, getD, set, take, length-replicate, length-map}
 use lib.Seq.{length-take-le}
-use lib.Ieee.{Float, binary64, fits}
+use lib.Ieee.{Float, binary64, mul, fits}
 use borrow.Author.Tests.{lt-ltb, le-ltb}
 use Rattle.definitions.specs.Lists.{at, overwritten}
 use Rattle.definitions.specs.Floats.{zeroF}
@@ -21,7 +21,6 @@ use Rattle.laws.proofs.Loops.{loopLeft}
 use Rattle.laws.proofs.Places.{bump, overwritten-turn, overwritten-at, overwritten-length}
 use Rattle.reducer.specs.declared.Datum.{Datum}
 use Rattle.reducer.specs.declared.BuiltEdges.{BuiltEdges}
-use Rattle.reducer.specs.declared.BuiltEdges.the-variants.{Irregular}
 use Rattle.reducer.specs.declared.Reducer.{Reducer}
 use Rattle.reducer.specs.declared.Reducer.the-variants.{ComponentSumHistogram}
 use Rattle.reducer.specs.Readings.{opOf, theDatum, readingOf}
@@ -29,19 +28,18 @@ use Rattle.reducer.specs.Consume as consume
 use Rattle.reducer.specs.Consume.{builtBins, builtFind, builtBin, addIn, reducerSize, consumed}
 use Rattle.reducer.proofs.Placewise.{room, consumed-length}
 use Rattle.edge_table.specs.declared.Table.{Table}
-use Rattle.edge_table.specs.Table.{numberOr, foundOf, droppedOf}
-use Rattle.edge_table.specs.Tabled.{Tabled, TabledValues}
-use Rattle.edge_table.proofs.Batch.{dropped-bin}
+use Rattle.edge_table.specs.Table.{numberOr, foundOf}
+use Rattle.edge_table.specs.Tabled.{TabledValues}
+use Rattle.edge_table.proofs.Batch.{found-bins}
 use Rattle.idx_3d_offset.specs.declared.Axes.{Axes}
 use Rattle.idx_3d_offset.specs.Offsets.{Reach}
 use Rattle.twopoint_cartesian.specs.declared.Setup.{Setup}
-use Rattle.twopoint_cartesian.specs.Cells.{Fields, readingIn, datumIn, cellsAdded, rowAdded, rowValue, rowWeight, markedBin, weightAdded, markedAdded, weightsAdded, Binned, RowRoom, Room, Ready, overlapOf, fresh}
+use Rattle.twopoint_cartesian.specs.Cells.{Fields, readingIn, datumIn, cellsAdded, rowAdded, rowValue, weightAdded, weightsAdded, Binned, RowRoom, Room, Ready, overlapOf, fresh}
 use Rattle.twopoint_cartesian.proofs.Loops.{left-turn, left-done, kept}
 use Rattle.twopoint_cartesian.proofs.Merge.{below-found}
-use Rattle.twopoint_cartesian.proofs.Sure.{mark-right}
 use Rattle.twopoint_cartesian.proofs.Cells.{count-a}
 
--- ---- a row's values and weights, turn by turn; d is what a call answered
+-- ---- a row's values, turn by turn; d is what a call answered
 pub datum-is : (setup : Setup) (a b : Fields) (i j : ℕ) (x y d : Datum) → readingOf x ≡ readingIn a i → readingOf y ≡ readingIn b j → theDatum d ≡ definitions.datumOf (opOf (setup .op)) (readingOf x) (readingOf y)
     → theDatum d ≡ datumIn setup a b i j
 datum-is setup a b i j x y d ex ey e = e ∙ λ t. definitions.datumOf (opOf (setup .op)) (ex t) (ey t)
@@ -51,23 +49,8 @@ module _ (setup : Setup) (a b : Fields) (i j x : ℕ) (s q : List Float) (d : Da
   unfolding rowValue
   value-turn v ev inv = ap (λ (w : Float). set q x w) (ev ∙ ap componentSum ed) ∙ overwritten-turn (rowValue setup a b i j) x s q h inv
 
-  pub weight-turn : q ≡ overwritten x (rowWeight setup a b i j) s → set q x (d .weight) ≡ overwritten (x + 1) (rowWeight setup a b i j) s
-  unfolding rowWeight
-  weight-turn inv = ap (λ (w : Float). set q x w) (ap (λ (e : definitions.Datum). e .weight) ed) ∙ overwritten-turn (rowWeight setup a b i j) x s q h inv
-
-module _ (setup : Setup) (a b : Fields) (i j x n : ℕ) (s q : List Float) (h : x ≤ n) (k : n ≤ x) where
-  pub values-done : q ≡ overwritten x (rowValue setup a b i j) s → q ≡ overwritten n (rowValue setup a b i j) s
-  values-done inv = let e : x ≡ n = omega arith in inv ∙ ap (λ (m : ℕ). overwritten m (rowValue setup a b i j) s) e
-
-  pub weights-done : q ≡ overwritten x (rowWeight setup a b i j) s → q ≡ overwritten n (rowWeight setup a b i j) s
-  weights-done inv = let e : x ≡ n = omega arith in inv ∙ ap (λ (m : ℕ). overwritten m (rowWeight setup a b i j) s) e
-
--- ---- their bins
-pub marks-irregular : (edges : BuiltEdges) (es : List Float) (hints : List ℕ) (table : Table) (x r : List Float) (l m q : List ℕ) → edges ≡ Irregular → Tabled edges es table → ((i : ℕ) → T (fits binary64 (at x i))) → length r ≡ length x
-    → length l ≡ length x → m ≡ foundOf edges es hints table x r l → q ≡ droppedOf table x m → q ≡ map (markedBin edges es) x
-unfolding markedBin
-marks-irregular edges es hints table x r l m q k t f er el em eq =
-    eq ∙ ap (droppedOf table x) em ∙ dropped-bin es hints table edges t x r l f er el ∙ (λ i. map (λ v. numberOr (builtBin (k i) es v)) x) ∙ ap (λ (e : BuiltEdges). map (markedBin e es) x) (sym k)
+pub values-done : (setup : Setup) (a b : Fields) (i j x n : ℕ) (s q : List Float) → x ≤ n → n ≤ x → q ≡ overwritten x (rowValue setup a b i j) s → q ≡ overwritten n (rowValue setup a b i j) s
+values-done setup a b i j x n s q h k inv = let e : x ≡ n = omega arith in inv ∙ ap (λ (m : ℕ). overwritten m (rowValue setup a b i j) s) e
 
 -- ---- the weights added, turn by turn
 module _ (b : ℕ) (w : Float) (s : List Float) where
@@ -79,19 +62,19 @@ module _ (b : ℕ) (w : Float) (s : List Float) where
   unfolding weightAdded
   weight-out h = rw (le-ltb b (length s) h)
 
-module _ (edges : BuiltEdges) (es : List Float) (found : List ℕ) (values weights : List Float) (n : ℕ) where
-  pub weights-start : (s : List Float) → weightsAdded edges es found values weights 0 (n - 0) s ≡ weightsAdded edges es found values weights 0 n s
-  weights-start s = ap (λ (m : ℕ). weightsAdded edges es found values weights 0 m s) (sub-zero n)
+module _ (aw bw : List Float) (i j : ℕ) (found : List ℕ) (n : ℕ) where
+  pub weights-start : (s : List Float) → weightsAdded aw bw i j found 0 (n - 0) s ≡ weightsAdded aw bw i j found 0 n s
+  weights-start s = ap (λ (m : ℕ). weightsAdded aw bw i j found 0 m s) (sub-zero n)
 
-  module _ (z : List Float) (k : ℕ) (s : List Float) where
-    pub weights-turn : (q : List Float) → k < n → q ≡ markedAdded edges es (getD found k 0) (at values k) (at weights k) s → weightsAdded edges es found values weights k (n - k) s ≡ z
-        → weightsAdded edges es found values weights (k + 1) (n - (k + 1)) q ≡ z
+  module _ (z : List Float) (x : ℕ) (s : List Float) where
+    pub weights-turn : (q : List Float) → x < n → q ≡ weightAdded (getD found x 0) (mul binary64 (at aw (i + x)) (at bw (j + x))) s → weightsAdded aw bw i j found x (n - x) s ≡ z
+        → weightsAdded aw bw i j found (x + 1) (n - (x + 1)) q ≡ z
     unfolding weightsAdded
-    weights-turn q = left-turn (λ k s. markedAdded edges es (getD found k 0) (at values k) (at weights k) s) n z k s q
+    weights-turn q = left-turn (λ x s. weightAdded (getD found x 0) (mul binary64 (at aw (i + x)) (at bw (j + x))) s) n z x s q
 
-    pub weights-over : n ≤ k → weightsAdded edges es found values weights k (n - k) s ≡ z → s ≡ z
+    pub weights-over : n ≤ x → weightsAdded aw bw i j found x (n - x) s ≡ z → s ≡ z
     unfolding weightsAdded
-    weights-over = left-done (λ k s. markedAdded edges es (getD found k 0) (at values k) (at weights k) s) n z k s
+    weights-over = left-done (λ x s. weightAdded (getD found x 0) (mul binary64 (at aw (i + x)) (at bw (j + x))) s) n z x s
 
 -- ---- a row
 -- loops whose bodies agree on states of one kind
@@ -104,10 +87,6 @@ map-at : (f : Float → ℕ) (l : List Float) (k : ℕ) → k < length l → get
 map-at f [] k h = absurd (omega arith)
 map-at f (x ∷ l) zero h = refl
 map-at f (x ∷ l) (suc k) h = map-at f l k (omega arith)
-
-map-length : (f : Float → ℕ) (l : List Float) → length (map f l) ≡ length l
-map-length f [] = refl
-map-length f (x ∷ l) = ap suc (map-length f l)
 
 -- one weight, where the state is of the histogram's size
 one-weight : (edges : BuiltEdges) (es : List Float) (d : definitions.Datum) (s : List Float) → length s ≡ builtBins edges (length es) → length s ≤ 256
@@ -125,31 +104,38 @@ one-weight edges es d s e h =
         let k : b ≡ b * 1 + 0 = omega arith in
         (rw (lt-ltb b (length s) (omega arith))) ∙ ap (λ (i : ℕ). bump i (d .weight) s) k
 
-module _ (setup : Setup) (es : List Float) (a b : Fields) (edges : BuiltEdges) (table : Table) (i j n : ℕ) (v w s : List Float) (u : Binned setup edges es table (length s)) (vs ws : List Float) (fs : List ℕ) (hv : length v ≡ n)
-    (ev : vs ≡ overwritten n (rowValue setup a b i j) v) (ew : ws ≡ overwritten n (rowWeight setup a b i j) w) (ef : fs ≡ map (markedBin edges es) vs) where
-  found-length : length fs ≡ n
-  found-length = ap length ef ∙ map-length (markedBin edges es) vs ∙ ap length ev ∙ overwritten-length (rowValue setup a b i j) n v (omega arith) ∙ hv
+-- the values, and what the lookup of them left
+module _ (setup : Setup) (es : List Float) (a b : Fields) (edges : BuiltEdges) (hints : List ℕ) (table : Table) (i j n : ℕ) (v s : List Float) (u : Binned setup edges es table (length s)) (vs : List Float) (f fs : List ℕ)
+    (r : RowRoom n (length v) (length f)) (ev : vs ≡ overwritten n (rowValue setup a b i j) v) (held : (k : ℕ) → T (fits binary64 (at vs k))) (ef : fs ≡ foundOf edges es hints table vs f) where
+  abbrev bin : Float → ℕ
+  bin x = numberOr (builtBin edges es x)
 
-  step : (x : ℕ) (t : List Float) → x < n → length t ≡ length s → markedAdded edges es (getD fs x 0) (at vs x) (at ws x) t ≡ cellsAdded setup es a b (i + x) (j + x) t
-  unfolding cellsAdded rowValue rowWeight
+  values-length : length vs ≡ n
+  values-length = ap length ev ∙ overwritten-length (rowValue setup a b i j) n v (omega (arith, r .values)) ∙ r .values
+
+  bins-are : fs ≡ map bin vs
+  bins-are = ef ∙ found-bins es hints table edges (u .tabled) vs f held (r .found ∙ sym values-length)
+
+  found-length : length fs ≡ n
+  found-length = ap length bins-are ∙ length-map vs bin ∙ values-length
+
+  step : (x : ℕ) (t : List Float) → x < n → length t ≡ length s → weightAdded (getD fs x 0) (mul binary64 (at (a .weights) (i + x)) (at (b .weights) (j + x))) t ≡ cellsAdded setup es a b (i + x) (j + x) t
+  unfolding cellsAdded rowValue
   step x t h p =
       let d = datumIn setup a b (i + x) (j + x) in
-      let l : x < length vs = omega (arith, ap length ev, overwritten-length (rowValue setup a b i j) n v (omega arith), hv) in
       let c : at vs x ≡ componentSum d = ap (λ (r : List Float). at r x) ev ∙ overwritten-at (rowValue setup a b i j) n v x h in
-      let e : getD fs x 0 ≡ markedBin edges es (componentSum d) = ap (λ (r : List ℕ). getD r x 0) ef ∙ map-at (markedBin edges es) vs x l ∙ ap (markedBin edges es) c in
-      let g : at ws x ≡ d .weight = ap (λ (r : List Float). at r x) ew ∙ overwritten-at (rowWeight setup a b i j) n w x h in
-      (λ k. markedAdded edges es (e k) (c k) (g k) t) ∙ mark-right edges es (componentSum d) (d .weight) t (p ∙ u .sized) (omega (arith, u .small)) ∙ one-weight edges es d t (p ∙ u .sized) (omega (arith, u .small))
-      ∙ ap (λ (r : Reducer). consumed r es 1 0 d t) (sym (u .kind))
+      let e : getD fs x 0 ≡ bin (componentSum d) = ap (λ (r : List ℕ). getD r x 0) bins-are ∙ map-at bin vs x (omega (arith, values-length)) ∙ ap bin c in
+      ap (λ (k : ℕ). weightAdded k (d .weight) t) e ∙ one-weight edges es d t (p ∙ u .sized) (omega (arith, u .small)) ∙ ap (λ (r : Reducer). consumed r es 1 0 d t) (sym (u .kind))
 
   keeps : (x : ℕ) (t : List Float) → length t ≡ length s → length (cellsAdded setup es a b (i + x) (j + x) t) ≡ length s
   unfolding cellsAdded
   keeps x t p = consumed-length es 1 0 (datumIn setup a b (i + x) (j + x)) t (setup .reducer) ∙ p
 
-  pub row-done : (q : List Float) → q ≡ weightsAdded edges es fs vs ws 0 (length fs) s → q ≡ rowAdded setup es a b i j 0 n s
+  pub row-done : (q : List Float) → q ≡ weightsAdded (a .weights) (b .weights) i j fs 0 (length fs) s → q ≡ rowAdded setup es a b i j 0 n s
   unfolding weightsAdded rowAdded
   row-done q e =
-      e ∙ ap (λ (m : ℕ). loopLeft (λ k t. markedAdded edges es (getD fs k 0) (at vs k) (at ws k) t) 0 m s) found-length
-      ∙ same-loop (λ k t. markedAdded edges es (getD fs k 0) (at vs k) (at ws k) t) (λ x t. cellsAdded setup es a b (i + x) (j + x) t) n (λ t. length t ≡ length s) step keeps 0 n (omega arith) s refl
+      e ∙ ap (λ (m : ℕ). loopLeft (λ x t. weightAdded (getD fs x 0) (mul binary64 (at (a .weights) (i + x)) (at (b .weights) (j + x))) t) 0 m s) found-length
+      ∙ same-loop (λ x t. weightAdded (getD fs x 0) (mul binary64 (at (a .weights) (i + x)) (at (b .weights) (j + x))) t) (λ x t. cellsAdded setup es a b (i + x) (j + x) t) n (λ t. length t ≡ length s) step keeps 0 n (omega arith) s refl
 
 -- ---- rooms
 pub binned-same : (setup : Setup) (edges : BuiltEdges) (es : List Float) (table : Table) (k l : ℕ) → k ≡ l → Binned setup edges es table l → Binned setup edges es table k
@@ -159,8 +145,8 @@ pub binned-cleared : (setup : Setup) (edges : BuiltEdges) (es : List Float) (tab
 unfolding fresh
 binned-cleared setup edges es table s q e u = binned-same setup edges es table (length q) (length s) (ap length e ∙ length-replicate (length s) (zeroF false)) u
 
-pub room-same : (n v w r f v' w' r' f' : ℕ) → v' ≡ v → w' ≡ w → r' ≡ r → f' ≡ f → RowRoom n v w r f → RowRoom n v' w' r' f'
-room-same n v w r f v' w' r' f' ev ew er ef u = record { values = ev ∙ u .values; weights = ew ∙ u .weights; room = er ∙ u .room; found = ef ∙ u .found }
+pub room-same : (n v f v' f' : ℕ) → v' ≡ v → f' ≡ f → RowRoom n v f → RowRoom n v' f'
+room-same n v f v' f' ev ef u = record { values = ev ∙ u .values; found = ef ∙ u .found }
 
 -- a histogram's state and table, by the arm
 pub binned : (setup : Setup) (edges : BuiltEdges) (es : List Float) (table : Table) (n bin size len : ℕ) → setup .reducer ≡ ComponentSumHistogram edges → TabledValues (setup .reducer) es table
@@ -172,24 +158,12 @@ binned setup edges es table n bin size len t h z r =
 pub narrow : (a b : CartesianBlock) → Ready a → Ready b → (d : blocks.Idx3DOffset) → Reach (record { z = a .nz; y = a .ny; x = a .nx }) (record { z = b .nz; y = b .ny; x = b .nx }) d → (n : Axes) → n ≡ overlapOf a b d → n .x ≤ 64
 narrow a b ha hb d r n e = rw e (omega (arith, count-a (a .nx) (b .nx) (d .dx) (r .x-axis), ha .axes .x-axis .most))
 
-module _ (n v w r f : ℕ) (u : RowRoom 64 v w r f) (h : n ≤ 64) where
+module _ (n v f : ℕ) (u : RowRoom 64 v f) (h : n ≤ 64) where
   pub part-values : n ≤ v
   part-values = omega (arith, u .values)
-
-  pub part-weights : n ≤ w
-  part-weights = omega (arith, u .weights)
-
-  pub part-room : n ≤ r
-  part-room = omega (arith, u .room)
 
   pub part-found : n ≤ f
   part-found = omega (arith, u .found)
 
-pub parts-room : (n : ℕ) (v w r : List Float) (f : List ℕ) → RowRoom 64 (length v) (length w) (length r) (length f) → n ≤ 64 → RowRoom n (length (take n v)) (length (take n w)) (length (take n r)) (length (take n f))
-parts-room n v w r f u h =
-    record {
-      values = length-take-le n v (omega (arith, u .values));
-      weights = length-take-le n w (omega (arith, u .weights));
-      room = length-take-le n r (omega (arith, u .room));
-      found = length-take-le n f (omega (arith, u .found));
-    }
+pub parts-room : (n : ℕ) (v : List Float) (f : List ℕ) → RowRoom 64 (length v) (length f) → n ≤ 64 → RowRoom n (length (take n v)) (length (take n f))
+parts-room n v f u h = record { values = length-take-le n v (omega (arith, u .values)); found = length-take-le n f (omega (arith, u .found)) }

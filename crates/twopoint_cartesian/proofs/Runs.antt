@@ -104,20 +104,23 @@ module _ (e : definitions.Edges) (k : kinds.Kind) (shape : Shape) (len : ℕ) (d
     unfolding drive.zeroPack
     used-part = omega (arith, used-limit, ap length h, length-replicate 4096 (zeroF false))
 
-  pub state-lent : (z : List Float) → z ≡ zeroState → shape .«state_size» ≡ length (take (shape .«state_size») z)
+module _ (n : ℕ) (l : n ≤ 256) (z : List Float) (h : z ≡ zeroState) where
+  pub state-part : n ≤ length z
   unfolding zeroState
-  state-lent z h = sym (length-take-le (shape .«state_size») z (omega (arith, d .size, d .small, ap length h, length-replicate 256 (zeroF false))))
+  state-part = omega (arith, ap length h, length-replicate 256 (zeroF false))
+
+  pub state-lent : n ≡ length (take n z)
+  state-lent = sym (length-take-le n z state-part)
 
 pub same-blocks : (auto : Bool) (a b : CartesianBlock) → cond auto a b ≡ b → auto ≡ true → a ≡ b
 same-blocks auto a b s t = rw t at s
 
-pub roomy : (edges : Edges) (list : List Float) (kind : Kind) (valueEdges : List Float) (op : PairOperation) (shape : Shape) (len : ℕ) (be : BuiltEdges) (rd : Reducer) (y z : List Float)
-    → Drivable (edgesOf edges list) (kindOf kind valueEdges) shape len → be ≡ builtEdges edges → rd ≡ builtReducer kind → y ≡ zeroState → z ≡ zeroPack
-    → Roomy (record { op = op; edges = be; reducer = rd; «n_states» = shape .«n_states» }) list valueEdges (length (take (shape .«state_size») y)) (length (take (shape .«n_states» * shape .«state_size») z))
-roomy edges list kind valueEdges op shape len be rd y z d eb er ey ez =
-    let n = state-lent (edgesOf edges list) (kindOf kind valueEdges) shape len d y ey in
+pub roomy : (edges : Edges) (list : List Float) (kind : Kind) (valueEdges : List Float) (op : PairOperation) (shape : Shape) (len : ℕ) (be : BuiltEdges) (rd : Reducer) (z : List Float)
+    → Drivable (edgesOf edges list) (kindOf kind valueEdges) shape len → be ≡ builtEdges edges → rd ≡ builtReducer kind → z ≡ zeroPack
+    → Roomy (record { op = op; edges = be; reducer = rd; «n_states» = shape .«n_states» }) list valueEdges (shape .«state_size») (length (take (shape .«n_states» * shape .«state_size») z))
+roomy edges list kind valueEdges op shape len be rd z d eb er ez =
     let u = used-lent (edgesOf edges list) (kindOf kind valueEdges) shape len d z ez in
-    rw (sym n, sym u) (record {
+    rw (sym u) (record {
       states = d .states ∙ sym (made-bins list edges) ∙ ap (λ (x : BuiltEdges). builtBins x (length list)) (sym (eb ∙ built-made edges list (d .edges)));
       few = omega (arith, d .states, d .few);
       small = omega (arith, d .size, d .small);
@@ -148,16 +151,16 @@ module _ (r : Run) (width : blocks.CellWidth) (a b : CartesianBlock) (ha : Ready
 
 -- q is what the pack holds after the walk from zeros
 pub driven : (auto : Bool) (a0 a1 a2 aw : List Float) (a : Block) (b0 b1 b2 bw : List Float) (b : Block) (width : CellWidth) (edges : Edges) (list : List Float) (kind : Kind) (valueEdges : List Float)
-    (op : PairOperation) (shape : Shape) (s y z q : List Float) (be : BuiltEdges) (rd : Reducer)
+    (op : PairOperation) (shape : Shape) (s z q : List Float) (be : BuiltEdges) (rd : Reducer)
     → q
     ≡ addedScratch s
-    (offsetsAdded (record { op = op; edges = be; reducer = rd; «n_states» = shape .«n_states» }) list valueEdges (widthOf width) (blockOf a a0 a1 a2 aw) (blockOf b b0 b1 b2 bw) (length (take (shape .«state_size») y))
+    (offsetsAdded (record { op = op; edges = be; reducer = rd; «n_states» = shape .«n_states» }) list valueEdges (widthOf width) (blockOf a a0 a1 a2 aw) (blockOf b b0 b1 b2 bw) (shape .«state_size»)
     (seqFor auto (axesOf a) (axesOf b)) (take (shape .«n_states» * shape .«state_size») z))
-    → y ≡ zeroState → z ≡ zeroPack → be ≡ builtEdges edges → rd ≡ builtReducer kind → Ready (blockOf a a0 a1 a2 aw) → Ready (blockOf b b0 b1 b2 bw) → cond auto (blockOf a a0 a1 a2 aw) (blockOf b b0 b1 b2 bw) ≡ blockOf b b0 b1 b2 bw
+    → z ≡ zeroPack → be ≡ builtEdges edges → rd ≡ builtReducer kind → Ready (blockOf a a0 a1 a2 aw) → Ready (blockOf b b0 b1 b2 bw) → cond auto (blockOf a a0 a1 a2 aw) (blockOf b b0 b1 b2 bw) ≡ blockOf b b0 b1 b2 bw
     → Drivable (edgesOf edges list) (kindOf kind valueEdges) shape (length s)
     → q ≡ merged (setsRun (setsFor auto (widthOf width) (blockOf a a0 a1 a2 aw) (blockOf b b0 b1 b2 bw)) edges list kind valueEdges op shape) s
 unfolding setsRun
-driven auto a0 a1 a2 aw a b0 b1 b2 bw b width edges list kind valueEdges op shape s y z q be rd h ey ez eb er ha hb same d =
+driven auto a0 a1 a2 aw a b0 b1 b2 bw b width edges list kind valueEdges op shape s z q be rd h ez eb er ha hb same d =
     let A = blockOf a a0 a1 a2 aw in
     let B = blockOf b b0 b1 b2 bw in
     let w = widthOf width in
@@ -166,10 +169,9 @@ driven auto a0 a1 a2 aw a b0 b1 b2 bw b width edges list kind valueEdges op shap
     let g = er ∙ reducer-made kind valueEdges (d .values) in
     let n = bins (edgesOf edges list) * kindSize (kindOf kind valueEdges) in
     let u = (λ i. take (d .states i * d .size i) z) ∙ lent-zeros z n (d .limit) ez in
-    let m = sym (state-lent (edgesOf edges list) (kindOf kind valueEdges) shape (length s) d y ey) ∙ d .size in
     let sets = setsFor auto w A B in
     h
-    ∙ (λ i. addedScratch s (offsetsAdded (record { op = op; edges = f i; reducer = g i; «n_states» = d .states i }) list valueEdges w A B (m i) l (u i)))
+    ∙ (λ i. addedScratch s (offsetsAdded (record { op = op; edges = f i; reducer = g i; «n_states» = d .states i }) list valueEdges w A B (d .size i) l (u i)))
     ∙ added-merged (theRun list valueEdges edges kind op shape sets) s _
     (filled-length list valueEdges edges kind op shape sets (d .few) (d .small) w A B l _ ∙ length-replicate n (zeroF false)) (d .within)
     (λ p k. filled-at list valueEdges edges kind op shape sets (d .few) (d .small) w A B l p k ∙ scratch-is (theRun list valueEdges edges kind op shape sets) w A B ha hb auto p same refl)

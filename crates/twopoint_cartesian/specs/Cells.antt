@@ -1,14 +1,14 @@
 -- What the private functions ask and promise: the cells of an offset into a state of their own, its merge into its bin, and the walk over the offsets, as updates of stores.
 use mathlib.Core.Path.{_≡_}
 use mathlib.Core.Option.{Option, none, some}
-use mathlib.Core.List.{List, [], _∷_, map}
-use mathlib.Core.Bool.{Bool, true, false, not, _&&_, cond}
-use Prim.Native.Nat.{ℕ, _+_, _-_, _*_, _/_, _%_, _≤_, _<_}
-use lib.Dec.{ltb, eqb}
-use lib.ListN.{length, getD, replicate, getElem?}
-use lib.IntN.{ℤ, pos, natAbs}
-use lib.Ieee.{Float, binary64, add, mul, lt, le, ofInt, ofBits, toBits}
-use Rattle.definitions.specs.Lists.{at, upto}
+use mathlib.Core.List.{List, [], _∷_}
+use mathlib.Core.Bool.{Bool, true, false, cond}
+use Prim.Native.Nat.{ℕ, _+_, _*_, _≤_, _<_}
+use lib.Dec.{ltb}
+use lib.ListN.{length, getD, replicate}
+use lib.IntN.{ℤ, natAbs}
+use lib.Ieee.{Float, binary64, add, mul}
+use Rattle.definitions.specs.Lists.{at}
 use Rattle.definitions.specs.Floats.{zeroF}
 use Rattle.definitions.specs.Points.{Reading}
 use Rattle.definitions.specs.Blocks.{CartesianBlock, Cell, cell, cellIndex, requiredLength, startA, startB, count, cellPairs, distanceSquared}
@@ -17,21 +17,22 @@ use Rattle.definitions.specs.Reducer.{Datum, datumOf, componentSum}
 use Rattle.definitions.specs.Run.{place}
 use Rattle.laws.proofs.Loops.{loopLeft}
 use Rattle.laws.proofs.Places.{foldPack, bump}
-use Rattle.bins.specs.declared.RegularBinEdges.{RegularBinEdges}
 use Rattle.reducer.specs.declared.BuiltEdges.{BuiltEdges}
-use Rattle.reducer.specs.declared.BuiltEdges.the-variants.{Regular, Irregular}
 use Rattle.reducer.specs.declared.Reducer.{Reducer}
 use Rattle.reducer.specs.declared.Reducer.the-variants.{Comp0Mean, ComponentSumMean, ComponentSumHistogram}
 use Rattle.reducer.specs.Readings.{opOf}
 use Rattle.reducer.specs.Consume.{builtBins, builtBin, reducerSize, consumed}
 use Rattle.edge_table.specs.declared.Table.{Table}
-use Rattle.edge_table.specs.Table.{numberOr, quotient}
 use Rattle.edge_table.specs.Tabled.{Usable, Tabled, UsableValues, TabledValues}
 use Rattle.idx_3d_offset.specs.declared.Axes.{Axes}
-use Rattle.idx_3d_offset.specs.Offsets.{Walkable, crossSeq, autoSeq}
+use Rattle.idx_3d_offset.specs.Offsets.{Walkable, crossSeq, autoSeq, idxOf}
+use Rattle.spatial.specs.declared.Block.{Block}
 use Rattle.twopoint_cartesian.specs.declared.Setup.{Setup}
 use Rattle.twopoint_cartesian.specs.declared.Tables.{Tables}
 use Rattle.twopoint_cartesian.specs.declared.Mean.{Mean}
+use Rattle.twopoint_cartesian.specs.declared.Step.{Step}
+use Rattle.twopoint_cartesian.specs.declared.Step.the-variants.{At, None}
+use Rattle.twopoint_cartesian.specs.Readings.{axesOf}
 
 -- a block's three components and its weights
 pub record Fields : Type 0 where
@@ -122,40 +123,17 @@ module _ (setup : Setup) (valueEdges : List Float) (a b : Fields) where
   blockAdded i j sa sb ta tb n k z l s = loopLeft (λ z s. planeAdded (i + z * ta) (j + z * tb) sa sb n 0 k s) z l s
 
 -- ---- a histogram's row
--- the value and the weight of pair x of a row
-module _ (setup : Setup) (a b : Fields) (i j : ℕ) where
-  unfoldable pub rowValue : ℕ → Float
-  rowValue x = componentSum (datumIn setup a b (i + x) (j + x))
-
-  unfoldable pub rowWeight : ℕ → Float
-  rowWeight x = datumIn setup a b (i + x) (j + x) .weight
-
--- a guess of a quotient's whole number
-unfoldable pub guessOf : Float → ℕ
-guessOf q = toBits binary64 (add binary64 (add binary64 q (ofBits binary64 0x40af_ff80_0000_0000)) (ofBits binary64 0x4320_0000_0000_0000)) / 2 % 4096
-
--- h is the whole number of the quotient q of x, which is inside the ends
-unfoldable pub isSure : RegularBinEdges → Float → Float → ℕ → Bool
-isSure e x q h = le (ofInt binary64 (pos h)) q && (lt q (add binary64 (ofInt binary64 (pos h)) (ofBits binary64 0x3ff0_0000_0000_0000)) && (not (lt x (e .min)) && not (le (e .max) x)))
-
-unfoldable pub sureBin : RegularBinEdges → Float → ℕ
-sureBin e x = cond (isSure e x (quotient e x) (guessOf (quotient e x))) (guessOf (quotient e x)) 4097
-
--- the bin of a value: 4096 where there is none, 4097 where it is still to be looked up
-unfoldable pub markedBin : BuiltEdges → List Float → Float → ℕ
-markedBin (Regular e) list x = sureBin e x
-markedBin Irregular list x = numberOr (builtBin Irregular list x)
+-- the value of pair x of a row
+unfoldable pub rowValue : Setup → Fields → Fields → ℕ → ℕ → ℕ → Float
+rowValue setup a b i j x = componentSum (datumIn setup a b (i + x) (j + x))
 
 -- the weight to the number of a bin, if it is one
 unfoldable pub weightAdded : ℕ → Float → List Float → List Float
 weightAdded b w s = cond (ltb b (length s)) (bump b w s) s
 
-unfoldable pub markedAdded : BuiltEdges → List Float → ℕ → Float → Float → List Float → List Float
-markedAdded edges list b x w s = cond (ltb b (length s)) (weightAdded b w s) (cond (eqb b 4097) (weightAdded (numberOr (builtBin edges list x)) w s) s)
-
--- the weights from k on, m of them
-unfoldable pub weightsAdded : BuiltEdges → List Float → List ℕ → List Float → List Float → ℕ → ℕ → List Float → List Float
-weightsAdded edges list found values weights k m s = loopLeft (λ k s. markedAdded edges list (getD found k 0) (at values k) (at weights k) s) k m s
+-- the weights of the pairs from x on, m of them, each to its bin
+unfoldable pub weightsAdded : List Float → List Float → ℕ → ℕ → List ℕ → ℕ → ℕ → List Float → List Float
+weightsAdded aw bw i j found x m s = loopLeft (λ x s. weightAdded (getD found x 0) (mul binary64 (at aw (i + x)) (at bw (j + x))) s) x m s
 
 -- the setup's histogram, its value edges' table, and a state of its size
 pub record Binned (setup : Setup) (edges : BuiltEdges) (valueEdges : List Float) (table : Table) (size : ℕ) : Type 0 where
@@ -165,15 +143,13 @@ pub record Binned (setup : Setup) (edges : BuiltEdges) (valueEdges : List Float)
   pub small : size ≤ 256
 
 -- room for a row of n
-pub record RowRoom (n v w r f : ℕ) : Type 0 where
+pub record RowRoom (n v f : ℕ) : Type 0 where
   pub values : v ≡ n
-  pub weights : w ≡ n
-  pub room : r ≡ n
   pub found : f ≡ n
 
 -- room for the longest row
-abbrev pub Wide : ℕ → ℕ → ℕ → ℕ → Type 0
-Wide v w r f = RowRoom 64 v w r f
+abbrev pub Wide : ℕ → ℕ → Type 0
+Wide v f = RowRoom 64 v f
 
 -- ---- the same for a mean, its two numbers apart
 abbrev pub scalarOf : Reducer → Datum → Float
@@ -292,3 +268,26 @@ module _ (setup : Setup) (list valueEdges : List Float) (width : Blocks.CellWidt
 abbrev pub seqFor : Bool → Axes → Axes → List Blocks.Idx3DOffset
 seqFor true a b = autoSeq a
 seqFor false a b = crossSeq a b
+
+-- ---- an offset and its bin
+abbrev pub stepOf : Step → Option (Blocks.Idx3DOffset × ℕ)
+stepOf (At o k) = some (idxOf o, k)
+stepOf None = none
+
+abbrev pub inBin : Blocks.Idx3DOffset → Option ℕ → Option (Blocks.Idx3DOffset × ℕ)
+inBin d none = none
+inBin d (some k) = some (d, k)
+
+-- of an offset, if there is one; distance gives its squared distance
+unfoldable pub stepFor : BuiltEdges → List Float → (Blocks.Idx3DOffset → Float) → Option Blocks.Idx3DOffset → Option (Blocks.Idx3DOffset × ℕ)
+stepFor edges list distance none = none
+stepFor edges list distance (some d) = inBin d (builtBin edges list (distance d))
+
+-- blocks whose offset number i can be reckoned
+pub record Walked (auto : Bool) (a b : Block) (i : ℕ) : Type 0 where
+  pub first : Walkable (axesOf a)
+  pub second : Walkable (axesOf b)
+  pub first-global : AllNear (a .gz) (a .gy) (a .gx)
+  pub second-global : AllNear (b .gz) (b .gy) (b .gx)
+  pub same : auto ≡ true → axesOf a ≡ axesOf b
+  pub number : i < length (seqFor auto (axesOf a) (axesOf b))

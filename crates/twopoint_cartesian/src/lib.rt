@@ -1,6 +1,5 @@
 // Two-point runs over the cells of Cartesian blocks (twopoint_cartesian.rs).
 use bins::BinIndex;
-use bins::RegularBinEdges;
 use edge_table::Table;
 use idx_3d_offset::Axes;
 use idx_3d_offset::Idx3DOffset;
@@ -17,7 +16,7 @@ use spatial::CellWidth;
 use state::Outcome;
 ghost use mathlib.Core.Path.{_≡_};
 ghost use mathlib.Core.Bool.{true, cond};
-ghost use mathlib.Core.List.{[], map};
+ghost use mathlib.Core.List.{[]};
 ghost use mathlib.Core.Option.{some};
 ghost use Prim.Native.Nat.{_+_, _*_, _<_, _≤_};
 ghost use lib.ListN.{length, getElem?};
@@ -30,7 +29,6 @@ ghost use Rattle.bins.specs.Answers.{indexOf};
 ghost use Rattle.state.specs.Readings.{numberOf};
 ghost use Rattle.reducer.specs.Readings.{theDatum, readingOf, edgesOf, kindOf};
 ghost use Rattle.reducer.specs.Consume.{builtBin, reducerSize};
-ghost use Rattle.edge_table.specs.Table.{numberOr};
 ghost use Rattle.edge_table.specs.Tabled.{Tabled, TabledValues};
 ghost use Rattle.parallel_serial.specs.Drive.{addedScratch};
 ghost use Rattle.parallel_serial.proofs.Refusals.{Drivable};
@@ -38,7 +36,7 @@ ghost use Rattle.idx_3d_offset.specs.Offsets.{idxOf, offsetOf, Reach};
 ghost use Rattle.spatial.specs.Readings.{blockOf, widthOf};
 ghost use Rattle.spatial.specs.Refusals.{setsFor};
 ghost use Rattle.twopoint_cartesian.specs.Readings.{axesOf, setsRun, autoRun, crossRun};
-ghost use Rattle.twopoint_cartesian.specs.Cells.{fields, readingIn, datumIn, rowValue, rowWeight, guessOf, isSure, sureBin, markedBin, weightAdded, markedAdded, weightsAdded, Binned, RowRoom, Wide, Holds, RowFits, PlaneFits, BlockFits, Near, AllNear, Ready, Placed, rowAdded, scalarOf, cellsInMean, rowInMean, planeInMean, blockInMean, offsetMean, meanState, Looked, Findable, planeAdded, blockAdded, firstA, firstB, overlapOf, offsetCells, zeroState, fresh, Room, Roomy, stateMerged, mergedIn, offsetAdded, numberAdded, offsetsAdded, seqFor};
+ghost use Rattle.twopoint_cartesian.specs.Cells.{fields, readingIn, datumIn, rowValue, weightAdded, weightsAdded, Binned, RowRoom, Wide, Holds, RowFits, PlaneFits, BlockFits, Near, AllNear, Ready, Placed, rowAdded, scalarOf, cellsInMean, rowInMean, planeInMean, blockInMean, offsetMean, meanState, Looked, Findable, planeAdded, blockAdded, firstA, firstB, overlapOf, offsetCells, zeroState, fresh, Room, Roomy, stateMerged, mergedIn, numberAdded, offsetsAdded, seqFor, Walked, stepOf, stepFor};
 
 // What is the same for each offset of a run.
 struct Setup {
@@ -52,6 +50,12 @@ struct Setup {
 struct Tables {
     distances: Table,
     values: Table,
+}
+
+// An offset and its distance's bin; None past the last offset or where there is no bin.
+enum Step {
+    At(Idx3DOffset, usize),
+    None,
 }
 
 // The two numbers of a mean's state.
@@ -119,7 +123,7 @@ fn datum_at(
     reducer::datum_of(op, a, b)
 }
 
-// The value and the weight of each pair of a row: n cells of a from i on, each with b's from j on. A loop of its own goes several cells at a time.
+// The value of each pair of a row: n cells of a from i on, each with b's from j on. A loop of its own goes several cells at a time.
 fn gather_row(
     setup: Setup,
     a0: &[f64],
@@ -134,88 +138,13 @@ fn gather_row(
     j: usize,
     n: usize,
     values: &mut [f64],
-    weights: &mut [f64],
 )
-    requires { ⌜ RowFits (fields (now a0) (now a1) (now a2) (now aw)) i n ⌝ ∗ ⌜ RowFits (fields (now b0) (now b1) (now b2) (now bw)) j n ⌝ ∗ ⌜ n ≤ length (now values) ⌝ ∗ ⌜ n ≤ length (now weights) ⌝ }
+    requires { ⌜ RowFits (fields (now a0) (now a1) (now a2) (now aw)) i n ⌝ ∗ ⌜ RowFits (fields (now b0) (now b1) (now b2) (now bw)) j n ⌝ ∗ ⌜ n ≤ length (now values) ⌝ }
     ensures { λ _. ⌜ now (values .exit) ≡ overwritten n (rowValue setup (fields (now (a0 .entry)) (now (a1 .entry)) (now (a2 .entry)) (now (aw .entry))) (fields (now (b0 .entry)) (now (b1 .entry)) (now (b2 .entry)) (now (bw .entry))) i j) (now (values .entry)) ⌝ }
-    ensures { λ _. ⌜ now (weights .exit) ≡ overwritten n (rowWeight setup (fields (now (a0 .entry)) (now (a1 .entry)) (now (a2 .entry)) (now (aw .entry))) (fields (now (b0 .entry)) (now (b1 .entry)) (now (b2 .entry)) (now (bw .entry))) i j) (now (weights .entry)) ⌝ }
 {
     for x in 0..n {
         let d = datum_at(setup, a0, a1, a2, aw, b0, b1, b2, bw, i + x, j + x);
         values[x] = reducer::component_sum(d);
-        weights[x] = d.weight;
-    }
-}
-
-// Adding 2^51 rounds to a half; the bits above the last then hold the whole number.
-fn guess_of(q: f64) -> usize
-    ensures { λ r. ⌜ (r ≡ guessOf q) × (r < 4096) ⌝ }
-{
-    let z = (q + 4095.75) + 2251799813685248.0;
-    ((floats::to_bits(z) / 2) % 4096) as usize
-}
-
-// Whether h is the quotient without its fraction, of a value inside the ends.
-fn is_sure(e: RegularBinEdges, x: f64, q: f64, h: usize) -> bool
-    requires { ⌜ h < 4096 ⌝ }
-    ensures { λ r. ⌜ r ≡ isSure e x q h ⌝ }
-{
-    let f = h as f64;
-    let next = f + 1.0;
-    if f <= q {
-        if q < next {
-            if x < e.min {
-                return false;
-            }
-            if e.max <= x {
-                return false;
-            }
-            return true;
-        }
-    }
-    false
-}
-
-// The bin in regular edges where a guess is right, else 4097.
-fn sure_bin(e: RegularBinEdges, x: f64) -> usize
-    ensures { λ r. ⌜ r ≡ sureBin e x ⌝ }
-{
-    let q = (x - e.min) / e.bin_size;
-    let h = guess_of(q);
-    if is_sure(e, x, q, h) { h } else { 4097 }
-}
-
-// A loop of its own, with nothing but arithmetic, goes several values at a time.
-fn sure_bins(e: RegularBinEdges, x: &[f64], found: &mut [usize])
-    requires { ⌜ length (now found) ≡ length (now x) ⌝ }
-    ensures { λ _. ⌜ now (found .exit) ≡ map (sureBin e) (now (x .entry)) ⌝ }
-{
-    let mut q = 0;
-    while q < x.len() {
-        found[q] = sure_bin(e, x[q]);
-        q += 1;
-    }
-}
-
-// The bin of each value: 4096 where there is none, and 4097 where it is still to be looked up.
-fn find_bins(
-    edges: BuiltEdges,
-    table: Table,
-    value_edges: &[f64],
-    hints: &[u8],
-    values: &[f64],
-    room: &mut [f64],
-    found: &mut [usize],
-)
-    requires { ⌜ Tabled edges (now «value_edges») table ⌝ ∗ ⌜ length (now room) ≡ length (now values) ⌝ ∗ ⌜ length (now found) ≡ length (now values) ⌝ }
-    ensures { λ _. ⌜ now (found .exit) ≡ map (markedBin edges (now («value_edges» .entry))) (now (values .entry)) ⌝ }
-{
-    match edges {
-        BuiltEdges::Regular(e) => sure_bins(e, values, found),
-        BuiltEdges::Irregular => {
-            edge_table::bins_of(edges, value_edges, hints, table, values, room, found);
-            edge_table::drop_outside(table, values, found);
-        }
     }
 }
 
@@ -228,51 +157,13 @@ fn add_weight(bin: usize, weight: f64, state: &mut [f64])
     }
 }
 
-// The same with the value looked up.
-fn add_value(edges: BuiltEdges, value_edges: &[f64], value: f64, weight: f64, state: &mut [f64])
-    requires { ⌜ length (now state) ≤ 256 ⌝ }
-    ensures { λ _. ⌜ now (state .exit) ≡ weightAdded (numberOr (builtBin edges (now («value_edges» .entry)) value)) weight (now (state .entry)) ⌝ }
+// Each pair's weight into its bin. Formed again here, so that no slice holds the weights.
+fn add_weights(aw: &[f64], bw: &[f64], i: usize, j: usize, found: &[usize], state: &mut [f64])
+    requires { ⌜ i + length (now found) ≤ length (now aw) ⌝ ∗ ⌜ j + length (now found) ≤ length (now bw) ⌝ }
+    ensures { λ _. ⌜ now (state .exit) ≡ weightsAdded (now (aw .entry)) (now (bw .entry)) i j (now (found .entry)) 0 (length (now (found .entry))) (now (state .entry)) ⌝ }
 {
-    match reducer::bin_of(edges, value_edges, value) {
-        BinIndex::At(bin) => add_weight(bin, weight, state),
-        BinIndex::None => {}
-    }
-}
-
-fn add_marked(
-    edges: BuiltEdges,
-    value_edges: &[f64],
-    bin: usize,
-    value: f64,
-    weight: f64,
-    state: &mut [f64],
-)
-    requires { ⌜ length (now state) ≤ 256 ⌝ }
-    ensures { λ _. ⌜ now (state .exit) ≡ markedAdded edges (now («value_edges» .entry)) bin value weight (now (state .entry)) ⌝ }
-{
-    if bin < state.len() {
-        add_weight(bin, weight, state);
-    } else {
-        if bin == 4097 {
-            add_value(edges, value_edges, value, weight, state);
-        }
-    }
-}
-
-// Each weight into its bin.
-fn add_weights(
-    edges: BuiltEdges,
-    value_edges: &[f64],
-    found: &[usize],
-    values: &[f64],
-    weights: &[f64],
-    state: &mut [f64],
-)
-    requires { ⌜ length (now found) ≤ length (now values) ⌝ ∗ ⌜ length (now found) ≤ length (now weights) ⌝ ∗ ⌜ length (now state) ≤ 256 ⌝ }
-    ensures { λ _. ⌜ now (state .exit) ≡ weightsAdded edges (now («value_edges» .entry)) (now (found .entry)) (now (values .entry)) (now (weights .entry)) 0 (length (now (found .entry))) (now (state .entry)) ⌝ }
-{
-    for k in 0..found.len() {
-        add_marked(edges, value_edges, found[k], values[k], weights[k], state);
+    for x in 0..found.len() {
+        add_weight(found[x], aw[i + x] * bw[j + x], state);
     }
 }
 
@@ -295,34 +186,17 @@ fn add_row(
     j: usize,
     n: usize,
     values: &mut [f64],
-    weights: &mut [f64],
-    room: &mut [f64],
     found: &mut [usize],
     state: &mut [f64],
 )
     requires { ⌜ RowFits (fields (now a0) (now a1) (now a2) (now aw)) i n ⌝ ∗ ⌜ RowFits (fields (now b0) (now b1) (now b2) (now bw)) j n ⌝ }
-    requires { ⌜ Binned setup edges (now «value_edges») table (length (now state)) ⌝ ∗ ⌜ RowRoom n (length (now values)) (length (now weights)) (length (now room)) (length (now found)) ⌝ }
+    requires { ⌜ Binned setup edges (now «value_edges») table (length (now state)) ⌝ ∗ ⌜ RowRoom n (length (now values)) (length (now found)) ⌝ }
     ensures { λ _. ⌜ now (state .exit) ≡ rowAdded setup (now («value_edges» .entry)) (fields (now (a0 .entry)) (now (a1 .entry)) (now (a2 .entry)) (now (aw .entry)))
         (fields (now (b0 .entry)) (now (b1 .entry)) (now (b2 .entry)) (now (bw .entry))) i j 0 n (now (state .entry)) ⌝ }
 {
-    gather_row(
-        setup,
-        a0,
-        a1,
-        a2,
-        aw,
-        b0,
-        b1,
-        b2,
-        bw,
-        i,
-        j,
-        n,
-        values,
-        weights,
-    );
-    find_bins(edges, table, value_edges, hints, values, room, found);
-    add_weights(edges, value_edges, found, values, weights, state);
+    gather_row(setup, a0, a1, a2, aw, b0, b1, b2, bw, i, j, n, values);
+    edge_table::bins_of(edges, value_edges, hints, table, values, found);
+    add_weights(aw, bw, i, j, found, state);
 }
 
 // k rows of n cells, each a stride after the one before: sa in a, sb in b.
@@ -347,12 +221,10 @@ fn add_plane(
     n: usize,
     k: usize,
     values: &mut [f64],
-    weights: &mut [f64],
-    room: &mut [f64],
     found: &mut [usize],
     state: &mut [f64],
 )
-    requires { ⌜ PlaneFits (fields (now a0) (now a1) (now a2) (now aw)) i sa n k ⌝ ∗ ⌜ PlaneFits (fields (now b0) (now b1) (now b2) (now bw)) j sb n k ⌝ ∗ ⌜ Binned setup edges (now «value_edges») table (length (now state)) ⌝ ∗ ⌜ RowRoom n (length (now values)) (length (now weights)) (length (now room)) (length (now found)) ⌝ }
+    requires { ⌜ PlaneFits (fields (now a0) (now a1) (now a2) (now aw)) i sa n k ⌝ ∗ ⌜ PlaneFits (fields (now b0) (now b1) (now b2) (now bw)) j sb n k ⌝ ∗ ⌜ Binned setup edges (now «value_edges») table (length (now state)) ⌝ ∗ ⌜ RowRoom n (length (now values)) (length (now found)) ⌝ }
     ensures { λ _. ⌜ now (state .exit) ≡ planeAdded setup (now («value_edges» .entry)) (fields (now (a0 .entry)) (now (a1 .entry)) (now (a2 .entry)) (now (aw .entry)))
         (fields (now (b0 .entry)) (now (b1 .entry)) (now (b2 .entry)) (now (bw .entry))) i j sa sb n 0 k (now (state .entry)) ⌝ }
 {
@@ -375,8 +247,6 @@ fn add_plane(
             j + y * sb,
             n,
             values,
-            weights,
-            room,
             found,
             state,
         );
@@ -408,12 +278,10 @@ fn add_planes(
     k: usize,
     l: usize,
     values: &mut [f64],
-    weights: &mut [f64],
-    room: &mut [f64],
     found: &mut [usize],
     state: &mut [f64],
 )
-    requires { ⌜ BlockFits (fields (now a0) (now a1) (now a2) (now aw)) i sa ta n k l ⌝ ∗ ⌜ BlockFits (fields (now b0) (now b1) (now b2) (now bw)) j sb tb n k l ⌝ ∗ ⌜ Binned setup edges (now «value_edges») table (length (now state)) ⌝ ∗ ⌜ RowRoom n (length (now values)) (length (now weights)) (length (now room)) (length (now found)) ⌝ }
+    requires { ⌜ BlockFits (fields (now a0) (now a1) (now a2) (now aw)) i sa ta n k l ⌝ ∗ ⌜ BlockFits (fields (now b0) (now b1) (now b2) (now bw)) j sb tb n k l ⌝ ∗ ⌜ Binned setup edges (now «value_edges») table (length (now state)) ⌝ ∗ ⌜ RowRoom n (length (now values)) (length (now found)) ⌝ }
     ensures { λ _. ⌜ now (state .exit) ≡ blockAdded setup (now («value_edges» .entry)) (fields (now (a0 .entry)) (now (a1 .entry)) (now (a2 .entry)) (now (aw .entry)))
         (fields (now (b0 .entry)) (now (b1 .entry)) (now (b2 .entry)) (now (bw .entry))) i j sa sb ta tb n k 0 l (now (state .entry)) ⌝ }
 {
@@ -439,8 +307,6 @@ fn add_planes(
             n,
             k,
             values,
-            weights,
-            room,
             found,
             state,
         );
@@ -720,69 +586,6 @@ fn mean_of_offset(
     mean_of_cells(setup, a0, a1, a2, aw, a, b0, b1, b2, bw, b, o)
 }
 
-// The cells of the offset, a's with b's, into a state.
-fn add_offset_cells(
-    setup: Setup,
-    edges: BuiltEdges,
-    table: Table,
-    value_edges: &[f64],
-    hints: &[u8],
-    a0: &[f64],
-    a1: &[f64],
-    a2: &[f64],
-    aw: &[f64],
-    a: Block,
-    b0: &[f64],
-    b1: &[f64],
-    b2: &[f64],
-    bw: &[f64],
-    b: Block,
-    o: Idx3DOffset,
-    values: &mut [f64],
-    weights: &mut [f64],
-    room: &mut [f64],
-    found: &mut [usize],
-    state: &mut [f64],
-)
-    requires { ⌜ Ready (blockOf a (now a0) (now a1) (now a2) (now aw)) ⌝ ∗ ⌜ Ready (blockOf b (now b0) (now b1) (now b2) (now bw)) ⌝ ∗ ⌜ Reach (axesOf a) (axesOf b) (idxOf o) ⌝ }
-    requires { ⌜ Binned setup edges (now «value_edges») table (length (now state)) ⌝ ∗ ⌜ Wide (length (now values)) (length (now weights)) (length (now room)) (length (now found)) ⌝ }
-    ensures { λ _. ⌜ now (state .exit) ≡ offsetCells setup (now («value_edges» .entry)) (blockOf a (now (a0 .entry)) (now (a1 .entry)) (now (a2 .entry)) (now (aw .entry)))
-        (blockOf b (now (b0 .entry)) (now (b1 .entry)) (now (b2 .entry)) (now (bw .entry))) (idxOf o) (now (state .entry)) ⌝ }
-{
-    let i = first_of_a(a, o);
-    let j = first_of_b(b, o);
-    let n = overlap(a, b, o);
-    add_planes(
-        setup,
-        edges,
-        table,
-        value_edges,
-        hints,
-        a0,
-        a1,
-        a2,
-        aw,
-        b0,
-        b1,
-        b2,
-        bw,
-        i,
-        j,
-        a.sy,
-        b.sy,
-        a.sz,
-        b.sz,
-        n.x,
-        n.y,
-        n.z,
-        &mut values[..n.x],
-        &mut weights[..n.x],
-        &mut room[..n.x],
-        &mut found[..n.x],
-        state,
-    );
-}
-
 // ---- a state of its own for each offset, merged once into its bin
 
 fn clear(state: &mut [f64])
@@ -842,61 +645,6 @@ fn bin_of_offset(
     edge_table::bin_of(edges, list, distances, distance)
 }
 
-// The cells of the offset in a fresh state.
-fn sum_cells(
-    setup: Setup,
-    edges: BuiltEdges,
-    table: Table,
-    value_edges: &[f64],
-    hints: &[u8],
-    a0: &[f64],
-    a1: &[f64],
-    a2: &[f64],
-    aw: &[f64],
-    a: Block,
-    b0: &[f64],
-    b1: &[f64],
-    b2: &[f64],
-    bw: &[f64],
-    b: Block,
-    o: Idx3DOffset,
-    values: &mut [f64],
-    weights: &mut [f64],
-    room: &mut [f64],
-    found: &mut [usize],
-    state: &mut [f64],
-)
-    requires { ⌜ Ready (blockOf a (now a0) (now a1) (now a2) (now aw)) ⌝ ∗ ⌜ Ready (blockOf b (now b0) (now b1) (now b2) (now bw)) ⌝ ∗ ⌜ Reach (axesOf a) (axesOf b) (idxOf o) ⌝ }
-    requires { ⌜ Binned setup edges (now «value_edges») table (length (now state)) ⌝ ∗ ⌜ Wide (length (now values)) (length (now weights)) (length (now room)) (length (now found)) ⌝ }
-    ensures { λ _. ⌜ now (state .exit) ≡ offsetCells setup (now («value_edges» .entry)) (blockOf a (now (a0 .entry)) (now (a1 .entry)) (now (a2 .entry)) (now (aw .entry)))
-        (blockOf b (now (b0 .entry)) (now (b1 .entry)) (now (b2 .entry)) (now (bw .entry))) (idxOf o) (fresh (length (now (state .entry)))) ⌝ }
-{
-    clear(state);
-    add_offset_cells(
-        setup,
-        edges,
-        table,
-        value_edges,
-        hints,
-        a0,
-        a1,
-        a2,
-        aw,
-        a,
-        b0,
-        b1,
-        b2,
-        bw,
-        b,
-        o,
-        values,
-        weights,
-        room,
-        found,
-        state,
-    );
-}
-
 // A mean's cells, into its bin.
 fn add_mean(
     auto: bool,
@@ -924,7 +672,7 @@ fn add_mean(
     merge_mean(setup.n_states, bin, m, scratch);
 }
 
-// A histogram's cells, into its bin.
+// A histogram's cells, in a fresh state, into its bin.
 fn add_histogram(
     setup: Setup,
     edges: BuiltEdges,
@@ -944,18 +692,20 @@ fn add_histogram(
     o: Idx3DOffset,
     bin: usize,
     values: &mut [f64],
-    weights: &mut [f64],
-    room: &mut [f64],
     found: &mut [usize],
     state: &mut [f64],
     scratch: &mut [f64],
 )
     requires { ⌜ Ready (blockOf a (now a0) (now a1) (now a2) (now aw)) ⌝ ∗ ⌜ Ready (blockOf b (now b0) (now b1) (now b2) (now bw)) ⌝ ∗ ⌜ Reach (axesOf a) (axesOf b) (idxOf o) ⌝ }
-    requires { ⌜ Binned setup edges (now «value_edges») table (length (now state)) ⌝ ∗ ⌜ Wide (length (now values)) (length (now weights)) (length (now room)) (length (now found)) ⌝ ∗ ⌜ Room (setup .«n_states») bin (length (now state)) (length (now scratch)) ⌝ }
+    requires { ⌜ Binned setup edges (now «value_edges») table (length (now state)) ⌝ ∗ ⌜ Wide (length (now values)) (length (now found)) ⌝ ∗ ⌜ Room (setup .«n_states») bin (length (now state)) (length (now scratch)) ⌝ }
     ensures { λ _. ⌜ now (scratch .exit) ≡ mergedIn (some bin) (setup .«n_states») (offsetCells setup (now («value_edges» .entry)) (blockOf a (now (a0 .entry)) (now (a1 .entry)) (now (a2 .entry)) (now (aw .entry)))
         (blockOf b (now (b0 .entry)) (now (b1 .entry)) (now (b2 .entry)) (now (bw .entry))) (idxOf o) (fresh (length (now (state .entry))))) (now (scratch .entry)) ⌝ }
 {
-    sum_cells(
+    clear(state);
+    let i = first_of_a(a, o);
+    let j = first_of_b(b, o);
+    let n = overlap(a, b, o);
+    add_planes(
         setup,
         edges,
         table,
@@ -965,17 +715,21 @@ fn add_histogram(
         a1,
         a2,
         aw,
-        a,
         b0,
         b1,
         b2,
         bw,
-        b,
-        o,
-        values,
-        weights,
-        room,
-        found,
+        i,
+        j,
+        a.sy,
+        b.sy,
+        a.sz,
+        b.sz,
+        n.x,
+        n.y,
+        n.z,
+        &mut values[..n.x],
+        &mut found[..n.x],
         state,
     );
     merge_state(setup.n_states, bin, state, scratch);
@@ -1001,8 +755,6 @@ fn add_in_bin(
     o: Idx3DOffset,
     bin: usize,
     values: &mut [f64],
-    weights: &mut [f64],
-    room: &mut [f64],
     found: &mut [usize],
     state: &mut [f64],
     scratch: &mut [f64],
@@ -1010,7 +762,7 @@ fn add_in_bin(
     requires { ⌜ Ready (blockOf a (now a0) (now a1) (now a2) (now aw)) ⌝ ∗ ⌜ Ready (blockOf b (now b0) (now b1) (now b2) (now bw)) ⌝ ∗ ⌜ Reach (axesOf a) (axesOf b) (idxOf o) ⌝ }
     requires { ⌜ (auto ≡ true → blockOf a (now a0) (now a1) (now a2) (now aw) ≡ blockOf b (now b0) (now b1) (now b2) (now bw)) ⌝ ∗ ⌜ TabledValues (setup .reducer) (now «value_edges») table ⌝ }
     requires { ⌜ Room (setup .«n_states») bin (length (now state)) (length (now scratch)) ⌝ ∗ ⌜ length (now state) ≡ reducerSize (setup .reducer) (length (now «value_edges»)) ⌝ }
-    requires { ⌜ Wide (length (now values)) (length (now weights)) (length (now room)) (length (now found)) ⌝ }
+    requires { ⌜ Wide (length (now values)) (length (now found)) ⌝ }
     ensures { λ _. ⌜ now (scratch .exit) ≡ mergedIn (some bin) (setup .«n_states») (offsetCells setup (now («value_edges» .entry)) (blockOf a (now (a0 .entry)) (now (a1 .entry)) (now (a2 .entry)) (now (aw .entry)))
         (blockOf b (now (b0 .entry)) (now (b1 .entry)) (now (b2 .entry)) (now (bw .entry))) (idxOf o) (fresh (length (now (state .entry))))) (now (scratch .entry)) ⌝ }
 {
@@ -1073,79 +825,10 @@ fn add_in_bin(
             o,
             bin,
             values,
-            weights,
-            room,
             found,
             state,
             scratch,
         ),
-    }
-}
-
-// The cells of one offset, if its distance has a bin.
-fn add_offset(
-    auto: bool,
-    setup: Setup,
-    tables: Tables,
-    list: &[f64],
-    value_edges: &[f64],
-    hints: &[u8],
-    width: CellWidth,
-    a0: &[f64],
-    a1: &[f64],
-    a2: &[f64],
-    aw: &[f64],
-    a: Block,
-    b0: &[f64],
-    b1: &[f64],
-    b2: &[f64],
-    bw: &[f64],
-    b: Block,
-    o: Idx3DOffset,
-    values: &mut [f64],
-    weights: &mut [f64],
-    room: &mut [f64],
-    found: &mut [usize],
-    state: &mut [f64],
-    scratch: &mut [f64],
-)
-    requires { ⌜ Ready (blockOf a (now a0) (now a1) (now a2) (now aw)) ⌝ ∗ ⌜ Ready (blockOf b (now b0) (now b1) (now b2) (now bw)) ⌝ ∗ ⌜ Reach (axesOf a) (axesOf b) (idxOf o) ⌝ }
-    requires { ⌜ (auto ≡ true → blockOf a (now a0) (now a1) (now a2) (now aw) ≡ blockOf b (now b0) (now b1) (now b2) (now bw)) ⌝ }
-    requires { ⌜ Looked setup (now list) (now «value_edges») tables ⌝ }
-    requires { ⌜ Roomy setup (now list) (now «value_edges») (length (now state)) (length (now scratch)) ⌝ }
-    requires { ⌜ Wide (length (now values)) (length (now weights)) (length (now room)) (length (now found)) ⌝ }
-    ensures { λ _. ⌜ now (scratch .exit) ≡ offsetAdded setup (now (list .entry)) (now («value_edges» .entry)) (widthOf width) (blockOf a (now (a0 .entry)) (now (a1 .entry)) (now (a2 .entry)) (now (aw .entry)))
-        (blockOf b (now (b0 .entry)) (now (b1 .entry)) (now (b2 .entry)) (now (bw .entry))) (length (now (state .entry))) (idxOf o) (now (scratch .entry)) ⌝ }
-{
-    let distances = tables.distances;
-    let table = tables.values;
-    match bin_of_offset(setup, distances, list, width, a, b, o) {
-        BinIndex::At(bin) => add_in_bin(
-            auto,
-            setup,
-            table,
-            value_edges,
-            hints,
-            a0,
-            a1,
-            a2,
-            aw,
-            a,
-            b0,
-            b1,
-            b2,
-            bw,
-            b,
-            o,
-            bin,
-            values,
-            weights,
-            room,
-            found,
-            state,
-            scratch,
-        ),
-        BinIndex::None => {}
     }
 }
 
@@ -1179,7 +862,30 @@ fn seq_get(auto: bool, a: Block, b: Block, i: usize) -> Offset
     idx_3d_offset::cross_offset(axes_of(a), axes_of(b), i)
 }
 
-// Offset number i.
+// Offset number i and its bin.
+fn step_at(
+    auto: bool,
+    setup: Setup,
+    distances: Table,
+    list: &[f64],
+    width: CellWidth,
+    a: Block,
+    b: Block,
+    i: usize,
+) -> Step
+    requires { ⌜ Walked auto a b i ⌝ ∗ ⌜ Tabled (setup .edges) (now list) distances ⌝ }
+    ensures { λ r. ⌜ stepOf r ≡ stepFor (setup .edges) (now (list .entry)) (distanceSquared (widthOf width) (blockOf a [] [] [] []) (blockOf b [] [] [] [])) (getElem? (seqFor auto (axesOf a) (axesOf b)) i) ⌝ }
+{
+    match seq_get(auto, a, b, i) {
+        Offset::At(o) => match bin_of_offset(setup, distances, list, width, a, b, o) {
+            BinIndex::At(bin) => Step::At(o, bin),
+            BinIndex::None => Step::None,
+        },
+        Offset::End => Step::None,
+    }
+}
+
+// The cells of offset number i, if its distance has a bin.
 fn add_number(
     auto: bool,
     setup: Setup,
@@ -1200,8 +906,6 @@ fn add_number(
     b: Block,
     i: usize,
     values: &mut [f64],
-    weights: &mut [f64],
-    room: &mut [f64],
     found: &mut [usize],
     state: &mut [f64],
     scratch: &mut [f64],
@@ -1209,19 +913,19 @@ fn add_number(
     requires { ⌜ Ready (blockOf a (now a0) (now a1) (now a2) (now aw)) ⌝ ∗ ⌜ Ready (blockOf b (now b0) (now b1) (now b2) (now bw)) ⌝ ∗ ⌜ (auto ≡ true → blockOf a (now a0) (now a1) (now a2) (now aw) ≡ blockOf b (now b0) (now b1) (now b2) (now bw)) ⌝ ∗ ⌜ i < length (seqFor auto (axesOf a) (axesOf b)) ⌝ }
     requires { ⌜ Looked setup (now list) (now «value_edges») tables ⌝ }
     requires { ⌜ Roomy setup (now list) (now «value_edges») (length (now state)) (length (now scratch)) ⌝ }
-    requires { ⌜ Wide (length (now values)) (length (now weights)) (length (now room)) (length (now found)) ⌝ }
+    requires { ⌜ Wide (length (now values)) (length (now found)) ⌝ }
     ensures { λ _. ⌜ now (scratch .exit) ≡ numberAdded setup (now (list .entry)) (now («value_edges» .entry)) (widthOf width) (blockOf a (now (a0 .entry)) (now (a1 .entry)) (now (a2 .entry)) (now (aw .entry)))
         (blockOf b (now (b0 .entry)) (now (b1 .entry)) (now (b2 .entry)) (now (bw .entry))) (length (now (state .entry))) (getElem? (seqFor auto (axesOf a) (axesOf b)) i) (now (scratch .entry)) ⌝ }
 {
-    match seq_get(auto, a, b, i) {
-        Offset::At(o) => add_offset(
+    let distances = tables.distances;
+    let table = tables.values;
+    match step_at(auto, setup, distances, list, width, a, b, i) {
+        Step::At(o, bin) => add_in_bin(
             auto,
             setup,
-            tables,
-            list,
+            table,
             value_edges,
             hints,
-            width,
             a0,
             a1,
             a2,
@@ -1233,14 +937,13 @@ fn add_number(
             bw,
             b,
             o,
+            bin,
             values,
-            weights,
-            room,
             found,
             state,
             scratch,
         ),
-        Offset::End => {}
+        Step::None => {}
     }
 }
 
@@ -1264,8 +967,6 @@ fn fill(
     bw: &[f64],
     b: Block,
     values: &mut [f64],
-    weights: &mut [f64],
-    room: &mut [f64],
     found: &mut [usize],
     state: &mut [f64],
     scratch: &mut [f64],
@@ -1273,7 +974,7 @@ fn fill(
     requires { ⌜ Ready (blockOf a (now a0) (now a1) (now a2) (now aw)) ⌝ ∗ ⌜ Ready (blockOf b (now b0) (now b1) (now b2) (now bw)) ⌝ ∗ ⌜ (auto ≡ true → blockOf a (now a0) (now a1) (now a2) (now aw) ≡ blockOf b (now b0) (now b1) (now b2) (now bw)) ⌝ }
     requires { ⌜ Looked setup (now list) (now «value_edges») tables ⌝ }
     requires { ⌜ Roomy setup (now list) (now «value_edges») (length (now state)) (length (now scratch)) ⌝ }
-    requires { ⌜ Wide (length (now values)) (length (now weights)) (length (now room)) (length (now found)) ⌝ }
+    requires { ⌜ Wide (length (now values)) (length (now found)) ⌝ }
     ensures { λ _. ⌜ now (scratch .exit) ≡ offsetsAdded setup (now (list .entry)) (now («value_edges» .entry)) (widthOf width) (blockOf a (now (a0 .entry)) (now (a1 .entry)) (now (a2 .entry)) (now (aw .entry)))
         (blockOf b (now (b0 .entry)) (now (b1 .entry)) (now (b2 .entry)) (now (bw .entry))) (length (now (state .entry))) (seqFor auto (axesOf a) (axesOf b)) (now (scratch .entry)) ⌝ }
 {
@@ -1299,81 +1000,11 @@ fn fill(
             b,
             i,
             values,
-            weights,
-            room,
             found,
             state,
             scratch,
         );
     }
-}
-
-// The same, with the tables and hints made here.
-fn fill_hinted(
-    auto: bool,
-    setup: Setup,
-    list: &[f64],
-    value_edges: &[f64],
-    hints: &mut [u8],
-    width: CellWidth,
-    a0: &[f64],
-    a1: &[f64],
-    a2: &[f64],
-    aw: &[f64],
-    a: Block,
-    b0: &[f64],
-    b1: &[f64],
-    b2: &[f64],
-    bw: &[f64],
-    b: Block,
-    values: &mut [f64],
-    weights: &mut [f64],
-    room: &mut [f64],
-    found: &mut [usize],
-    state: &mut [f64],
-    scratch: &mut [f64],
-)
-    requires { ⌜ Ready (blockOf a (now a0) (now a1) (now a2) (now aw)) ⌝ ∗ ⌜ Ready (blockOf b (now b0) (now b1) (now b2) (now bw)) ⌝ ∗ ⌜ (auto ≡ true → blockOf a (now a0) (now a1) (now a2) (now aw) ≡ blockOf b (now b0) (now b1) (now b2) (now bw)) ⌝ }
-    requires { ⌜ Findable setup (now list) (now «value_edges») ⌝ }
-    requires { ⌜ Roomy setup (now list) (now «value_edges») (length (now state)) (length (now scratch)) ⌝ }
-    requires { ⌜ Wide (length (now values)) (length (now weights)) (length (now room)) (length (now found)) ⌝ }
-    ensures { λ _. ⌜ now (scratch .exit) ≡ offsetsAdded setup (now (list .entry)) (now («value_edges» .entry)) (widthOf width) (blockOf a (now (a0 .entry)) (now (a1 .entry)) (now (a2 .entry)) (now (aw .entry)))
-        (blockOf b (now (b0 .entry)) (now (b1 .entry)) (now (b2 .entry)) (now (bw .entry))) (length (now (state .entry))) (seqFor auto (axesOf a) (axesOf b)) (now (scratch .entry)) ⌝ }
-{
-    let edges = setup.edges;
-    let kind = setup.reducer;
-    let distances = edge_table::table_of(edges, list, 0.0);
-    let value_table = edge_table::value_table_of(kind, value_edges, 4094.0);
-    let tables = Tables {
-        distances,
-        values: value_table,
-    };
-    edge_table::fill_hints(value_edges, value_table, hints);
-    fill(
-        auto,
-        setup,
-        tables,
-        list,
-        value_edges,
-        hints,
-        width,
-        a0,
-        a1,
-        a2,
-        aw,
-        a,
-        b0,
-        b1,
-        b2,
-        bw,
-        b,
-        values,
-        weights,
-        room,
-        found,
-        state,
-        scratch,
-    );
 }
 
 // Edges that are found have hints.
@@ -1386,10 +1017,26 @@ fn hint_room(edges: usize) -> usize
     4096
 }
 
-// The same, with the tables' room.
+// They stand in the first `room` places.
+fn hints_of(value_edges: &[f64], table: Table, room: usize) -> [u8; 4096]
+    requires { ⌜ room ≤ 4096 ⌝ }
+{
+    let mut hints = [0u8; 4096];
+    edge_table::fill_hints(value_edges, table, &mut hints[..room]);
+    hints
+}
+
+fn zero_state() -> [f64; 256]
+    ensures { λ r. ⌜ r ≡ zeroState ⌝ }
+{
+    [0.0; 256]
+}
+
+// The same, with the tables, the hints and the room for a row and a state made here.
 fn fill_tabled(
     auto: bool,
     setup: Setup,
+    state_size: usize,
     list: &[f64],
     value_edges: &[f64],
     width: CellWidth,
@@ -1403,27 +1050,34 @@ fn fill_tabled(
     b2: &[f64],
     bw: &[f64],
     b: Block,
-    state: &mut [f64],
     scratch: &mut [f64],
 )
     requires { ⌜ Ready (blockOf a (now a0) (now a1) (now a2) (now aw)) ⌝ ∗ ⌜ Ready (blockOf b (now b0) (now b1) (now b2) (now bw)) ⌝ ∗ ⌜ (auto ≡ true → blockOf a (now a0) (now a1) (now a2) (now aw) ≡ blockOf b (now b0) (now b1) (now b2) (now bw)) ⌝ }
     requires { ⌜ Findable setup (now list) (now «value_edges») ⌝ }
-    requires { ⌜ Roomy setup (now list) (now «value_edges») (length (now state)) (length (now scratch)) ⌝ }
+    requires { ⌜ Roomy setup (now list) (now «value_edges») «state_size» (length (now scratch)) ⌝ }
     ensures { λ _. ⌜ now (scratch .exit) ≡ offsetsAdded setup (now (list .entry)) (now («value_edges» .entry)) (widthOf width) (blockOf a (now (a0 .entry)) (now (a1 .entry)) (now (a2 .entry)) (now (aw .entry)))
-        (blockOf b (now (b0 .entry)) (now (b1 .entry)) (now (b2 .entry)) (now (bw .entry))) (length (now (state .entry))) (seqFor auto (axesOf a) (axesOf b)) (now (scratch .entry)) ⌝ }
+        (blockOf b (now (b0 .entry)) (now (b1 .entry)) (now (b2 .entry)) (now (bw .entry))) «state_size» (seqFor auto (axesOf a) (axesOf b)) (now (scratch .entry)) ⌝ }
 {
-    let mut hints = [0u8; 4096];
-    let mut values = [0.0; 64];
-    let mut weights = [0.0; 64];
-    let mut quotients = [0.0; 64];
-    let mut found = [0usize; 64];
+    let edges = setup.edges;
+    let kind = setup.reducer;
+    let distances = edge_table::table_of(edges, list, 0.0);
+    let value_table = edge_table::value_table_of(kind, value_edges, 4094.0);
+    let tables = Tables {
+        distances,
+        values: value_table,
+    };
     let hint_room = hint_room(value_edges.len());
-    fill_hinted(
+    let hints = hints_of(value_edges, value_table, hint_room);
+    let mut values = [0.0; 64];
+    let mut found = [0usize; 64];
+    let mut state = zero_state();
+    fill(
         auto,
         setup,
+        tables,
         list,
         value_edges,
-        &mut hints[..hint_room],
+        &hints[..hint_room],
         width,
         a0,
         a1,
@@ -1436,26 +1090,19 @@ fn fill_tabled(
         bw,
         b,
         &mut values,
-        &mut weights,
-        &mut quotients,
         &mut found,
-        state,
+        &mut state[..state_size],
         scratch,
     );
 }
 
 // ---- runs
 
-fn zero_state() -> [f64; 256]
-    ensures { λ r. ⌜ r ≡ zeroState ⌝ }
-{
-    [0.0; 256]
-}
-
 // Fills scratch and adds it to the caller's pack.
 fn run_in(
     auto: bool,
     setup: Setup,
+    state_size: usize,
     list: &[f64],
     value_edges: &[f64],
     width: CellWidth,
@@ -1469,19 +1116,19 @@ fn run_in(
     b2: &[f64],
     bw: &[f64],
     b: Block,
-    state: &mut [f64],
     scratch: &mut [f64],
     pack: &mut [f64],
 )
     requires { ⌜ Ready (blockOf a (now a0) (now a1) (now a2) (now aw)) ⌝ ∗ ⌜ Ready (blockOf b (now b0) (now b1) (now b2) (now bw)) ⌝ ∗ ⌜ (auto ≡ true → blockOf a (now a0) (now a1) (now a2) (now aw) ≡ blockOf b (now b0) (now b1) (now b2) (now bw)) ⌝ }
     requires { ⌜ Findable setup (now list) (now «value_edges») ⌝ }
-    requires { ⌜ Roomy setup (now list) (now «value_edges») (length (now state)) (length (now scratch)) ⌝ }
+    requires { ⌜ Roomy setup (now list) (now «value_edges») «state_size» (length (now scratch)) ⌝ }
     ensures { λ _. ⌜ now (pack .exit) ≡ addedScratch (now (pack .entry)) (offsetsAdded setup (now (list .entry)) (now («value_edges» .entry)) (widthOf width) (blockOf a (now (a0 .entry)) (now (a1 .entry)) (now (a2 .entry)) (now (aw .entry)))
-        (blockOf b (now (b0 .entry)) (now (b1 .entry)) (now (b2 .entry)) (now (bw .entry))) (length (now (state .entry))) (seqFor auto (axesOf a) (axesOf b)) (now (scratch .entry))) ⌝ }
+        (blockOf b (now (b0 .entry)) (now (b1 .entry)) (now (b2 .entry)) (now (bw .entry))) «state_size» (seqFor auto (axesOf a) (axesOf b)) (now (scratch .entry))) ⌝ }
 {
     fill_tabled(
         auto,
         setup,
+        state_size,
         list,
         value_edges,
         width,
@@ -1495,7 +1142,6 @@ fn run_in(
         b2,
         bw,
         b,
-        state,
         scratch,
     );
     parallel_serial::add_scratch(scratch, pack);
@@ -1540,11 +1186,11 @@ fn drive(
         n_states,
     };
     let used = n_states * state_size;
-    let mut state = zero_state();
     let mut scratch = parallel_serial::zeros();
     run_in(
         auto,
         setup,
+        state_size,
         list,
         value_edges,
         width,
@@ -1558,7 +1204,6 @@ fn drive(
         b2,
         bw,
         b,
-        &mut state[..state_size],
         &mut scratch[..used],
         pack,
     );

@@ -1,72 +1,63 @@
-use Rattle.twopoint_cartesian.proofs.Walk.{axes-same, seq-reach, number-some, number-none}
+use mathlib.Core.Path.{refl}
+use Rattle.twopoint_cartesian.proofs.Walk.{axes-same, step-reach, step-room, number-some, number-none}
 use borrow.Author.Needs.{needs}
 use Rattle.twopoint_cartesian.proofs.add_number.Statement.{statement}
 use Rattle.twopoint_cartesian.proofs.add_number.Tie as tie
 use Rattle.twopoint_cartesian.proofs.add_number.Reads as reads
 use Rattle.twopoint_cartesian.proofs.add_number.Lts as lts
-use Rattle.twopoint_cartesian.proofs.add_offset.Reads as add-offset-reads
-use Rattle.twopoint_cartesian.proofs.seq_get.Reads as seq-get-reads
+use Rattle.twopoint_cartesian.proofs.add_in_bin.Reads as add-in-bin-reads
+use Rattle.twopoint_cartesian.proofs.step_at.Reads as step-at-reads
 
--- src/lib.rt:1448:11
-seq-get-requires : tie.Need-seq-get-requires
-seq-get-requires c κs = search needs
+-- src/lib.rt:1175:11
+step-at-requires : tie.Need-step-at-requires
+step-at-requires c κs = let s = c .before .before .before .before .before .before .before .before .before .before .before .before .before .before .before .before .before in (record { first = s .pre .0 .axes; second = s .pre .1 .0 .axes; first-global = s .pre .0 .global; second-global = s .pre .1 .0 .global; same = axes-same _ _ _ (s .pre .1 .1 .0); number = s .pre .1 .1 .1 .0 }, s .pre .1 .1 .1 .1 .0 .distances)
 
--- src/lib.rt:1449:20
+-- src/lib.rt:1176:18
 enum-known-o : tie.Need-enum-known-o
 enum-known-o c = search needs
 
--- src/lib.rt:1449:26
-add-offset-requires : tie.Need-add-offset-requires
-add-offset-requires c κs = let s = c .before .before .before .before .before .before .before .before .before .before .before .before .before .before .before .before .before .before .before .before .before .before .before .before .before .before .before in (s .pre .0, (s .pre .1 .0, (seq-reach _ _ _ _ (axes-same _ _ _ (s .pre .1 .1 .0)) (s .pre .1 .1 .1 .0) _ _ (c .before .before .before .before .before .before .before .before .before .seq-get .ensures) (c .before .before .before .before .before .before .before .o .given .1), (s .pre .1 .1 .0, s .pre .1 .1 .1 .1))))
+-- src/lib.rt:1176:29
+add-in-bin-requires : tie.Need-add-in-bin-requires
+add-in-bin-requires c κs = let s = c .before .before .before .before .before .before .before .before .before .before .before .before .before .before .before .before .before .before .before .before .before .before .before .before .before in let e = c .before .before .before .before .before .before .before .step-at .ensures in let t = c .before .before .before .before .before .o .given .1 in (s .pre .0, (s .pre .1 .0, (step-reach (s .args .setup) _ _ _ _ e _ _ t _ _ _ _ (axes-same _ _ _ (s .pre .1 .1 .0)) (s .pre .1 .1 .1 .0) refl, (s .pre .1 .1 .0, (s .pre .1 .1 .1 .1 .0 .values, (step-room (s .args .setup) _ _ _ _ e _ _ t _ _ _ (s .pre .1 .1 .1 .1 .1 .0), (s .pre .1 .1 .1 .1 .1 .0 .sized, s .pre .1 .1 .1 .1 .1 .1)))))))
 
 enum-told : tie.Need-enum-told
 enum-told c = search needs
 
--- src/lib.rt:1415:1
+-- src/lib.rt:1142:1
 same-length : tie.Need-same-length
 same-length c = search needs
 
--- src/lib.rt:1415:1
+-- src/lib.rt:1142:1
 same-length-2 : tie.Need-same-length-2
 same-length-2 c = search needs
 
--- src/lib.rt:1415:1
+-- src/lib.rt:1142:1
 same-length-3 : tie.Need-same-length-3
 same-length-3 c = search needs
 
--- src/lib.rt:1415:1
+-- src/lib.rt:1142:1
 same-length-4 : tie.Need-same-length-4
 same-length-4 c = search needs
 
--- src/lib.rt:1415:1
-same-length-5 : tie.Need-same-length-5
-same-length-5 c = search needs
-
--- src/lib.rt:1415:1
-same-length-6 : tie.Need-same-length-6
-same-length-6 c = search needs
-
--- src/lib.rt:1415:1
+-- src/lib.rt:1142:1
 returns : tie.Need-returns
-returns c = number-some _ _ _ _ _ _ _ _ _ (c .before .before .before .before .before .before .before .before .before .before .before .before .before .before .before .before .before .before .before .before .before .before .seq-get .ensures) _ _ _ (c .before .before .before .before .before .before .before .before .before .before .before .before .before .before .before .before .before .before .before .before .o .given .1) (c .before .before .before .before .before .before .before .before .before .before .before .before .add-offset .ensures)
+returns c = let s = c .before .before .before .before .before .before .before .before .before .before .before .before .before .before .before .before .before .before .before .before .before .before .before .before .before .before .before .before .before .before .before .before .before .before in number-some _ _ _ _ _ (c .before .before .before .before .before .before .before .before .before .before .before .before .before .before .before .before .step-at .ensures) _ _ (c .before .before .before .before .before .before .before .before .before .before .before .before .before .before .o .given .1) _ _ _ _ _ _ _ refl (c .before .before .before .before .before .before .before .before .add-in-bin .ensures)
 
--- src/lib.rt:1415:1
+-- src/lib.rt:1142:1
 returns-2 : tie.Need-returns-2
-returns-2 c = number-none _ _ _ _ _ _ _ _ _ (c .before .before .seq-get .ensures) _ (c .enum-told .given .1)
+returns-2 c = number-none _ _ _ _ _ _ _ _ _ _ (c .before .before .step-at .ensures) (c .enum-told .given .1)
 
 pub add-number-spec : {M : Type 1} → statement M
 add-number-spec =
     tie.close
     (tie.spec
-    seq-get-requires
+    step-at-requires
     enum-known-o
-    add-offset-requires
+    add-in-bin-requires
     enum-told
     same-length
     same-length-2
     same-length-3
     same-length-4
-    same-length-5
-    same-length-6
     returns
     returns-2)

@@ -13,38 +13,38 @@ use Rattle.twopoint_cartesian.proofs.add_planes.Lts as lts
 use Rattle.twopoint_cartesian.proofs.add_plane.Reads as add-plane-reads
 
 abbrev Inv-loop : tie.InvT-loop
-Inv-loop setup edges table value-edges hints a0 a1 a2 aw b0 b1 b2 bw i j sa sb ta tb n k l values₀ weights₀ room₀ found₀ state₀ z₀ values weights room found state z = (z ≤ l) × RowRoom n (length values) (length weights) (length room) (length found) × (length state ≡ length state₀) × (blockAdded setup value-edges (fields a0 a1 a2 aw) (fields b0 b1 b2 bw) i j sa sb ta tb n k z (l - z) state ≡ blockAdded setup value-edges (fields a0 a1 a2 aw) (fields b0 b1 b2 bw) i j sa sb ta tb n k 0 l state₀)
+Inv-loop setup edges table value-edges hints a0 a1 a2 aw b0 b1 b2 bw i j sa sb ta tb n k l values₀ found₀ state₀ z₀ values found state z = (z ≤ l) × RowRoom n (length values) (length found) × (length state ≡ length state₀) × (blockAdded setup value-edges (fields a0 a1 a2 aw) (fields b0 b1 b2 bw) i j sa sb ta tb n k z (l - z) state ≡ blockAdded setup value-edges (fields a0 a1 a2 aw) (fields b0 b1 b2 bw) i j sa sb ta tb n k 0 l state₀)
 
 abbrev μ-loop : tie.MeasureT-loop
-μ-loop setup edges table value-edges hints a0 a1 a2 aw b0 b1 b2 bw i j sa sb ta tb n k l values₀ weights₀ room₀ found₀ state₀ z₀ values weights room found state z = l - z
+μ-loop setup edges table value-edges hints a0 a1 a2 aw b0 b1 b2 bw i j sa sb ta tb n k l values₀ found₀ state₀ z₀ values found state z = l - z
 
 -- src/lib.rt:497:5
 loop-holds : tie.Need-loop-holds Inv-loop μ-loop
-loop-holds c = let s = c .before .before .before .before .before .before .before .before .before .before .before .before .before .before .before in (omega arith, s .pre .1 .1 .1, refl, search block-start)
+loop-holds c = let s = c .before .before .before .before .before .before .before .before .before .before .before .before .before in (omega arith, s .pre .1 .1 .1, refl, search block-start)
 
 -- src/lib.rt:512:17
 mul-add-plane : tie.Need-mul-add-plane Inv-loop μ-loop
-mul-add-plane c = let s = c .before .before .before .before .before .before .before .before .before .before .before .before .before .before .before .before .before in omega (arith, s, s .pre .0 .plane (c .before .loop .z) (c .loop-test .taken))
+mul-add-plane c = let s = c .before .before .before .before .before .before .before .before .before .before .before .before .before .before .before in omega (arith, s, s .pre .0 .plane (c .before .loop .z) (c .loop-test .taken))
 
 -- src/lib.rt:512:13
 add-add-plane : tie.Need-add-add-plane Inv-loop μ-loop
-add-add-plane c = let s = c .before .before .before .before .before .before .before .before .before .before .before .before .before .before .before .before .before in omega (arith, s, s .pre .0 .plane (c .before .loop .z) (c .loop-test .taken))
+add-add-plane c = let s = c .before .before .before .before .before .before .before .before .before .before .before .before .before .before .before in omega (arith, s, s .pre .0 .plane (c .before .loop .z) (c .loop-test .taken))
 
 -- src/lib.rt:513:17
 mul-add-plane-2 : tie.Need-mul-add-plane-2 Inv-loop μ-loop
-mul-add-plane-2 c = let s = c .before .before .before .before .before .before .before .before .before .before .before .before .before .before .before .before .before in omega (arith, s, s .pre .1 .0 .plane (c .before .loop .z) (c .loop-test .taken))
+mul-add-plane-2 c = let s = c .before .before .before .before .before .before .before .before .before .before .before .before .before .before .before in omega (arith, s, s .pre .1 .0 .plane (c .before .loop .z) (c .loop-test .taken))
 
 -- src/lib.rt:513:13
 add-add-plane-2 : tie.Need-add-add-plane-2 Inv-loop μ-loop
-add-add-plane-2 c = let s = c .before .before .before .before .before .before .before .before .before .before .before .before .before .before .before .before .before in omega (arith, s, s .pre .1 .0 .plane (c .before .loop .z) (c .loop-test .taken))
+add-add-plane-2 c = let s = c .before .before .before .before .before .before .before .before .before .before .before .before .before .before .before in omega (arith, s, s .pre .1 .0 .plane (c .before .loop .z) (c .loop-test .taken))
 
 -- src/lib.rt:498:9
 add-plane-requires : tie.Need-add-plane-requires Inv-loop μ-loop
-add-plane-requires c κs = let s = c .before .before .before .before .before .before .before .before .before .before .before .before .before .before .before .before .before .before .before .before .before .before in (s .pre .0 .plane (c .before .before .before .before .before .before .loop .z) (c .before .before .before .before .before .loop-test .taken), (s .pre .1 .0 .plane (c .before .before .before .before .before .before .loop .z) (c .before .before .before .before .before .loop-test .taken), (binned-same _ _ _ _ _ _ (c .before .before .before .before .before .before .loop .inv .2) (s .pre .1 .1 .0), c .before .before .before .before .before .before .loop .inv .1)))
+add-plane-requires c κs = let s = c .before .before .before .before .before .before .before .before .before .before .before .before .before .before .before .before .before .before in (s .pre .0 .plane (c .before .before .before .before .loop .z) (c .before .before .before .loop-test .taken), (s .pre .1 .0 .plane (c .before .before .before .before .loop .z) (c .before .before .before .loop-test .taken), (binned-same _ _ _ _ _ _ (c .before .before .before .before .loop .inv .2) (s .pre .1 .1 .0), c .before .before .before .before .loop .inv .1)))
 
 -- src/lib.rt:497:9
 add-z : tie.Need-add-z Inv-loop μ-loop
-add-z c = record { fits = omega (arith, c .before .before .before .before .before .before .before .before .before .before .before .before .before .before .before .before .before .before .before .before .before .before .before .before .before .before .before .before .before .before .before .before .before .good, c .before .before .before .before .before .before .before .before .before .before .before .before .before .before .before .before .loop-test .taken) }
+add-z c = record { fits = omega (arith, c .before .before .before .before .before .before .before .before .before .before .before .before .before .before .before .before .before .before .before .before .before .before .before .before .before .good, c .before .before .before .before .before .before .before .before .before .before .loop-test .taken) }
 
 -- src/lib.rt:497:5
 loop-less : tie.Need-loop-less Inv-loop μ-loop
@@ -52,7 +52,7 @@ loop-less c = search needs
 
 -- src/lib.rt:497:5
 loop-again : tie.Need-loop-again Inv-loop μ-loop
-loop-again c = (omega arith, search needs, search needs, block-turn _ _ _ _ _ _ _ _ _ _ _ _ _ _ _ _ _ (c .before .before .before .before .before .before .before .before .before .before .before .before .before .before .before .before .loop-test .taken) (c .before .before .before .before .before .before .before .before .before .before .add-plane .ensures) (c .before .before .before .before .before .before .before .before .before .before .before .before .before .before .before .before .before .loop .inv .3))
+loop-again c = (omega arith, search needs, search needs, block-turn _ _ _ _ _ _ _ _ _ _ _ _ _ _ _ _ _ (c .before .before .before .before .before .before .before .before .before .before .loop-test .taken) (c .before .before .before .before .before .before .add-plane .ensures) (c .before .before .before .before .before .before .before .before .before .before .before .loop .inv .3))
 
 -- src/lib.rt:467:1
 same-length : tie.Need-same-length Inv-loop μ-loop
@@ -67,16 +67,8 @@ same-length-3 : tie.Need-same-length-3 Inv-loop μ-loop
 same-length-3 c = search needs
 
 -- src/lib.rt:467:1
-same-length-4 : tie.Need-same-length-4 Inv-loop μ-loop
-same-length-4 c = search needs
-
--- src/lib.rt:467:1
-same-length-5 : tie.Need-same-length-5 Inv-loop μ-loop
-same-length-5 c = search needs
-
--- src/lib.rt:467:1
 returns : tie.Need-returns Inv-loop μ-loop
-returns c = let s = c .before .before .before .before .before .before .before .before .before .before .before .before .before .before .before .before .before in block-done (s .args .setup) (s .args .value-edges .now) _ _ _ _ _ _ _ _ _ _ (s .args .l) _ (c .before .loop .z) _ (omega arith) (c .before .loop .inv .3)
+returns c = let s = c .before .before .before .before .before .before .before .before .before .before .before .before .before .before .before in block-done (s .args .setup) (s .args .value-edges .now) _ _ _ _ _ _ _ _ _ _ (s .args .l) _ (c .before .loop .z) _ (omega arith) (c .before .loop .inv .3)
 
 pub add-planes-spec : {M : Type 1} → statement M
 add-planes-spec =
@@ -96,6 +88,4 @@ add-planes-spec =
     same-length
     same-length-2
     same-length-3
-    same-length-4
-    same-length-5
     returns)

@@ -16,12 +16,12 @@ use Rattle.twopoint_cartesian.proofs.add_number.Reads as add-number-rea
 use Rattle.twopoint_cartesian.proofs.seq_len.Reads as seq-len-reads
 
 abbrev Inv-loop : tie.InvT-loop
-Inv-loop auto setup tables list value-edges hints width a0 a1 a2 aw a b0 b1 b2 bw b values₀ weights₀ room₀ found₀ state₀ scratch₀ n i₀ values weights room found state scratch i =
-    (i ≤ n) × (length values ≡ length values₀) × (length weights ≡ length weights₀) × (length room ≡ length room₀) × (length found ≡ length found₀) × (length state ≡ length state₀) × (length scratch ≡ length scratch₀)
+Inv-loop auto setup tables list value-edges hints width a0 a1 a2 aw a b0 b1 b2 bw b values₀ found₀ state₀ scratch₀ n i₀ values found state scratch i =
+    (i ≤ n) × (length values ≡ length values₀) × (length found ≡ length found₀) × (length state ≡ length state₀) × (length scratch ≡ length scratch₀)
     × (offsetsAdded setup list value-edges (widthOf width) (blockOf a a0 a1 a2 aw) (blockOf b b0 b1 b2 bw) (length state₀) (drop i (seqFor auto (axesOf a) (axesOf b))) scratch ≡ offsetsAdded setup list value-edges (widthOf width) (blockOf a a0 a1 a2 aw) (blockOf b b0 b1 b2 bw) (length state₀) (seqFor auto (axesOf a) (axesOf b)) scratch₀)
 
 abbrev μ-loop : tie.MeasureT-loop
-μ-loop auto setup tables list value-edges hints width a0 a1 a2 aw a b0 b1 b2 bw b values₀ weights₀ room₀ found₀ state₀ scratch₀ n i₀ values weights room found state scratch i = n - i
+μ-loop auto setup tables list value-edges hints width a0 a1 a2 aw a b0 b1 b2 bw b values₀ found₀ state₀ scratch₀ n i₀ values found state scratch i = n - i
 
 -- src/lib.rt:456:9
 seq-len-requires : tie.Need-seq-len-requires Inv-loop μ-loop
@@ -29,11 +29,11 @@ seq-len-requires c κs = search needs
 
 -- src/lib.rt:457:5
 loop-holds : tie.Need-loop-holds Inv-loop μ-loop
-loop-holds c = (omega arith, refl, refl, refl, refl, refl, refl, refl)
+loop-holds c = (omega arith, refl, refl, refl, refl, refl)
 
 -- src/lib.rt:458:9
 add-number-requires : tie.Need-add-number-requires Inv-loop μ-loop
-add-number-requires c κs = let s = c .before .before .before .before .before .before .before .before .before .before .before .before .before .before .before .before .before .before .before .before .before .before .before .before .before .before in (s .pre .0, (s .pre .1 .0, (s .pre .1 .1 .0, (omega (arith, c .before .before .before .before .before .before .loop-test .taken, c .before .before .before .before .before .before .before .before .seq-len .ensures), (s .pre .1 .1 .1 .0, (roomy-same _ _ _ _ _ _ _ (c .before .before .before .before .before .before .before .loop .inv .5) (c .before .before .before .before .before .before .before .loop .inv .6) (s .pre .1 .1 .1 .1 .0), room-same _ _ _ _ _ _ _ _ _ (c .before .before .before .before .before .before .before .loop .inv .1) (c .before .before .before .before .before .before .before .loop .inv .2) (c .before .before .before .before .before .before .before .loop .inv .3) (c .before .before .before .before .before .before .before .loop .inv .4) (s .pre .1 .1 .1 .1 .1)))))))
+add-number-requires c κs = let s = c .before .before .before .before .before .before .before .before .before .before .before .before .before .before .before .before .before .before .before .before .before .before in (s .pre .0, (s .pre .1 .0, (s .pre .1 .1 .0, (omega (arith, c .before .before .before .before .loop-test .taken, c .before .before .before .before .before .before .seq-len .ensures), (s .pre .1 .1 .1 .0, (roomy-same _ _ _ _ _ _ _ (c .before .before .before .before .before .loop .inv .3) (c .before .before .before .before .before .loop .inv .4) (s .pre .1 .1 .1 .1 .0), room-same _ _ _ _ _ (c .before .before .before .before .before .loop .inv .1) (c .before .before .before .before .before .loop .inv .2) (s .pre .1 .1 .1 .1 .1)))))))
 
 -- src/lib.rt:457:9
 add-i : tie.Need-add-i Inv-loop μ-loop
@@ -45,7 +45,7 @@ loop-less c = search needs
 
 -- src/lib.rt:457:5
 loop-again : tie.Need-loop-again Inv-loop μ-loop
-loop-again c = let s = c .before .before .before .before .before .before .before .before .before .before .before .before .before .before .before .before .before .before .before .before .before .before .before .before .before .before .before .before .before .before .before .before .before .before .before .before .before .before .before in let k = c .before .before .before .before .before .before .before .before .before .before .before .before .add-number .kept in let t = c .before .before .before .before .before .before .before .before .before .before .before .before .before .before .before .before .before .before .before .before in (omega (arith, c .before .before .before .before .before .before .before .before .before .before .before .before .before .before .before .before .before .before .before .loop-test .taken), omega (arith, k, t .loop .inv .1), omega (arith, k, t .loop .inv .2), omega (arith, k, t .loop .inv .3), omega (arith, k, t .loop .inv .4), omega (arith, k, t .loop .inv .5), omega (arith, k, t .loop .inv .6), walk-turn _ _ _ _ _ _ _ (seqFor (s .args .auto) (axesOf (s .args .a)) (axesOf (s .args .b))) _ (t .loop .i) _ _ _ (t .loop .inv .5) (c .before .before .before .before .before .before .before .before .before .before .before .before .add-number .ensures) (t .loop .inv .7))
+loop-again c = let s = c .before .before .before .before .before .before .before .before .before .before .before .before .before .before .before .before .before .before .before .before .before .before .before .before .before .before .before .before .before .before .before in let k = c .before .before .before .before .before .before .before .before .add-number .kept in let t = c .before .before .before .before .before .before .before .before .before .before .before .before .before .before in (omega (arith, c .before .before .before .before .before .before .before .before .before .before .before .before .before .loop-test .taken), omega (arith, k, t .loop .inv .1), omega (arith, k, t .loop .inv .2), omega (arith, k, t .loop .inv .3), omega (arith, k, t .loop .inv .4), walk-turn _ _ _ _ _ _ _ (seqFor (s .args .auto) (axesOf (s .args .a)) (axesOf (s .args .b))) _ (t .loop .i) _ _ _ (t .loop .inv .3) (c .before .before .before .before .before .before .before .before .add-number .ensures) (t .loop .inv .5))
 
 -- src/lib.rt:432:1
 same-length : tie.Need-same-length Inv-loop μ-loop
@@ -61,15 +61,9 @@ same-length-3 c = search needs
 same-length-4 : tie.Need-same-length-4 Inv-loop μ-loop
 same-length-4 c = search needs
 
-same-length-5 : tie.Need-same-length-5 Inv-loop μ-loop
-same-length-5 c = search needs
-
-same-length-6 : tie.Need-same-length-6 Inv-loop μ-loop
-same-length-6 c = search needs
-
 -- src/lib.rt:432:1
 returns : tie.Need-returns Inv-loop μ-loop
-returns c = let s = c .before .before .before .before .before .before .before .before .before .before .before .before .before .before .before .before .before .before .before .before in walk-done _ _ _ _ _ _ _ (seqFor (s .args .auto) (axesOf (s .args .a)) (axesOf (s .args .b))) _ (c .before .loop .i) _ (omega arith) (c .before .loop .inv .7)
+returns c = let s = c .before .before .before .before .before .before .before .before .before .before .before .before .before .before .before .before .before .before in walk-done _ _ _ _ _ _ _ (seqFor (s .args .auto) (axesOf (s .args .a)) (axesOf (s .args .b))) _ (c .before .loop .i) _ (omega arith) (c .before .loop .inv .5)
 
 pub fill-spec : {M : Type 1} → statement M
 fill-spec =
@@ -87,6 +81,4 @@ fill-spec =
     same-length-2
     same-length-3
     same-length-4
-    same-length-5
-    same-length-6
     returns)
