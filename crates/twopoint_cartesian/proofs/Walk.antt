@@ -22,7 +22,7 @@ use Rattle.idx_3d_offset.specs.declared.Offset.the-variants as offset
 use Rattle.idx_3d_offset.specs.Offsets.{idxOf, offsetOf, crossSeq, autoSeq, Reach}
 use Rattle.idx_3d_offset.proofs.Sequence.{cross-reach, auto-reach}
 use Rattle.twopoint_cartesian.specs.declared.Setup.{Setup}
-use Rattle.twopoint_cartesian.specs.declared.Block.{Block}
+use Rattle.spatial.specs.declared.Block.{Block}
 use Rattle.twopoint_cartesian.specs.declared.Step.{Step}
 use Rattle.twopoint_cartesian.specs.declared.Step.the-variants as step
 use Rattle.twopoint_cartesian.specs.Readings.{axesOf}
