@@ -25,7 +25,7 @@ use Rattle.reducer.specs.declared.BuiltEdges.{BuiltEdges}
 use Rattle.reducer.specs.declared.BuiltEdges.the-variants.{Regular, Irregular}
 use Rattle.reducer.specs.Consume.{builtBin}
 use Rattle.edge_table.specs.declared.Table.{Table}
-use Rattle.edge_table.specs.Table.{placeOf, bit, numberOr, between, nudged, outsideOf, holds, climb, climb32, halved, halvedBin, nearBin, hintFor, guessedBin, hintedBin, batchBin, foundOf}
+use Rattle.edge_table.specs.Table.{placeOf, bit, numberOr, between, outsideOf, holds, climb, climb32, halved, halvedBin, nearBin, hintFor, guessedBin, hintedBin, batchBin, foundOf}
 use Rattle.edge_table.specs.Tabled.{Searchable, Tabled}
 use Rattle.edge_table.proofs.Lookup.{outside, none-outside, and-true, enclosed-bin, tested, held-bin, halved-found}
 
@@ -122,31 +122,32 @@ module _ (list : List Float) (hints : List ℕ) (table : Table) (x : Float) (p :
   unfolding hintFor
   hint-none r h q = rw (← e, le-ltb p (length hints) h) q
 
-pub nudge-is : (list : List Float) (x edge : Float) (g : ℕ) → edge ≡ at list (g + 1) → g + bit (lt edge x) ≡ nudged list x g
-unfolding nudged
-nudge-is list x edge g e = rw e
-
--- g is the hint, h the answer of `nudge`, s of `is_between`
-module _ (list : List Float) (hints : List ℕ) (table : Table) (x : Float) (g h : ℕ) (s : Bool) (e : g ≡ hintFor list hints table x) (d : h ≡ nudged list x g) (q : s ≡ between list table x h) where
+-- h is the hint, s and t the answers of `is_between`
+module _ (list : List Float) (hints : List ℕ) (table : Table) (x : Float) (h : ℕ) (s : Bool) (e : h ≡ hintFor list hints table x) (q : s ≡ between list table x h) where
   pub hinted-right : s ≡ true → h ≡ numberOr (hintedBin list hints table x)
   unfolding hintedBin guessedBin
-  hinted-right a = rw (← e, ← d, ← q, a)
+  hinted-right a = rw (← e, ← q, a)
 
-  -- r is the answer of `is_outside`
-  module _ (a : s ≡ false) (r : Bool) (o : r ≡ outsideOf table x) where
-    pub hinted-none : r ≡ true → 4096 ≡ numberOr (hintedBin list hints table x)
+  module _ (a : s ≡ false) (t : Bool) (p : t ≡ between list table x (h + 1)) where
+    pub hinted-next : t ≡ true → h + 1 ≡ numberOr (hintedBin list hints table x)
     unfolding hintedBin guessedBin
-    hinted-none t = rw (← e, ← d, ← q, a, ← o, t)
+    hinted-next b = rw (← e, ← q, a, ← p, b)
 
-    pub hinted-near : (b : ℕ) → r ≡ false → b ≡ numberOr (nearBin list x g) → b ≡ numberOr (hintedBin list hints table x)
-    unfolding hintedBin guessedBin
-    hinted-near b t u = rw (← e, ← d, ← q, a, ← o, t) u
+    -- r is the answer of `is_outside`
+    module _ (b : t ≡ false) (r : Bool) (o : r ≡ outsideOf table x) where
+      pub hinted-none : r ≡ true → 4096 ≡ numberOr (hintedBin list hints table x)
+      unfolding hintedBin guessedBin
+      hinted-none c = rw (← e, ← q, a, ← p, b, ← o, c)
+
+      pub hinted-near : (n : ℕ) → r ≡ false → n ≡ numberOr (nearBin list x h) → n ≡ numberOr (hintedBin list hints table x)
+      unfolding hintedBin guessedBin
+      hinted-near n c u = rw (← e, ← q, a, ← p, b, ← o, c) u
 
 -- p is the place, n how many bins there are
-pub hinted-quick : (list : List Float) (hints : List ℕ) (table : Table) (x : Float) (p n h : ℕ) → p ≡ placeOf table x → p < length hints → n ≡ length list - 1 → h ≡ nudged list x (getD hints p 0) → h < n → lt (at list h) x ≡ true
-    → lt x (at list (h + 1)) ≡ true → lt x (table .last) ≡ true → h ≡ numberOr (hintedBin list hints table x)
-hinted-quick list hints table x p n h e w f d l a b c =
-    hinted-right list hints table x (getD hints p 0) h true (hint-is list hints table x p e w) d (sym c ∙ between-is list table x h n f l a b) refl
+pub hinted-quick : (list : List Float) (hints : List ℕ) (table : Table) (x : Float) (p n : ℕ) → p ≡ placeOf table x → p < length hints → n ≡ length list - 1 → getD hints p 0 < n → lt (at list (getD hints p 0)) x ≡ true
+    → lt x (at list (getD hints p 0 + 1)) ≡ true → lt x (table .last) ≡ true → getD hints p 0 ≡ numberOr (hintedBin list hints table x)
+hinted-quick list hints table x p n e w f l a b c =
+    hinted-right list hints table x (getD hints p 0) true (hint-is list hints table x p e w) (sym c ∙ between-is list table x (getD hints p 0) n f l a b) refl
 
 -- ---- the loops: f of the first q values is stored
 module _ {B : Type 0} (f : Float → B) (x : List Float) (l : List B) (q : ℕ) (e : length l ≡ length x) (inv : map f x ≡ take q l ++ map f (drop q x)) where
@@ -279,9 +280,10 @@ module _ (es : List Float) (hints : List ℕ) (table : Table) where
   hinted-found : (x : Float) → Tabled Irregular es table → fits binary64 x ≡ true → hintedBin es hints table x ≡ builtBin Irregular es x
   unfolding hintedBin guessedBin outsideOf
   hinted-found x t f =
-      let g = hintFor es hints table x in
+      let h = hintFor es hints table x in
       let o : outsideOf table x ≡ outside es x = λ i. isNan x || lt x (t .ends .0 i) || le (t .ends .1 i) x in
-      tested (between es table x (nudged es x g)) (nudged es x g) _ _ (between-bin es (t .usable) x f table (nudged es x g) (t .ends .1)) (go g (outsideOf table x) o)
+      let w : (g : ℕ) → between es table x g ≡ true → some g ≡ builtBin Irregular es x = λ g. between-bin es (t .usable) x f table g (t .ends .1) in
+      tested (between es table x h) h _ _ (w h) (tested (between es table x (h + 1)) (h + 1) _ _ (w (h + 1)) (go h (outsideOf table x) o))
     where
       go : (g : ℕ) (b : Bool) → b ≡ outside es x → cond b none (nearBin es x g) ≡ builtBin Irregular es x
       go g true v = none-outside es x (sym v)

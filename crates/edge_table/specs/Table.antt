@@ -108,10 +108,6 @@ sureBin e x = cond (isSure e x (quotient e x) (guessOf (quotient e x))) (guessOf
 unfoldable pub between : List Float → Table → Float → ℕ → Bool
 between list table x h = ltb h (length list - 1) && (lt (at list h) x && (lt x (at list (h + 1)) && lt x (table .last)))
 
--- the bin after g where the value is past g's upper edge
-unfoldable pub nudged : List Float → Float → ℕ → ℕ
-nudged list x g = g + bit (lt (at list (g + 1)) x)
-
 -- h or the bin after it, where it holds the value
 unfoldable pub nearBin : List Float → Float → ℕ → Option ℕ
 nearBin list x h = cond (holds list x h) (some h) (cond (holds list x (h + 1)) (some (h + 1)) (halvedBin list x))
@@ -120,9 +116,9 @@ nearBin list x h = cond (holds list x h) (some h) (cond (holds list x (h + 1)) (
 unfoldable pub hintFor : List Float → List ℕ → Table → Float → ℕ
 hintFor list hints table x = cond (ltb (placeOf table x) (length hints)) (getD hints (placeOf table x) 0) (halved list x)
 
--- of the guess g
+-- of the guess h: it or the bin after it, tested by the edges, then by the keys
 unfoldable pub guessedBin : List Float → Table → Float → ℕ → Option ℕ
-guessedBin list table x g = cond (between list table x (nudged list x g)) (some (nudged list x g)) (cond (outsideOf table x) none (nearBin list x g))
+guessedBin list table x h = cond (between list table x h) (some h) (cond (between list table x (h + 1)) (some (h + 1)) (cond (outsideOf table x) none (nearBin list x h)))
 
 unfoldable pub hintedBin : List Float → List ℕ → Table → Float → Option ℕ
 hintedBin list hints table x = guessedBin list table x (hintFor list hints table x)

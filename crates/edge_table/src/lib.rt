@@ -12,7 +12,7 @@ ghost use Rattle.floats.specs.Order.{orderKey};
 ghost use Rattle.bins.specs.Answers.{indexOf};
 ghost use Rattle.reducer.specs.declared.BuiltEdges.the-variants.{Regular};
 ghost use Rattle.reducer.specs.Consume.{builtBin};
-ghost use Rattle.edge_table.specs.Table.{tableOf, placeOf, endOf, spread, binHinted, hintsOf, outsideOf, edgeBin, tableBin, noTable, valueTableOf, numberOr, guessOf, isSure, sureBin, between, nudged, holds, climb, climb32, halved, halvedBin, nearBin, hintFor, hintedBin, foundOf};
+ghost use Rattle.edge_table.specs.Table.{tableOf, placeOf, endOf, spread, binHinted, hintsOf, outsideOf, edgeBin, tableBin, noTable, valueTableOf, numberOr, guessOf, isSure, sureBin, between, holds, climb, climb32, halved, halvedBin, nearBin, hintFor, hintedBin, foundOf};
 
 // Ends of the edges, and places of hints a unit of the value.
 pub struct Table {
@@ -258,27 +258,21 @@ fn hint_for(list: &[f64], hints: &[u8], table: Table, value: f64) -> usize
     halve(list, value)
 }
 
-// The hint, or the bin after it where the value is past the hint's upper edge; without a branch.
-fn nudge(list: &[f64], x: f64, g: usize) -> usize
-    requires { ⌜ g ≤ 255 ⌝ }
-    ensures { λ r. ⌜ r ≡ nudged (now (list .entry)) x g ⌝ }
-{
-    let upper = edge_at(list, g + 1);
-    g + ((upper < x) as usize)
-}
-
+// The hint's bin or the one after it, where the value is between its edges; else a search.
 fn hinted_bin(list: &[f64], hints: &[u8], table: Table, x: f64) -> usize
     ensures { λ r. ⌜ r ≡ numberOr (hintedBin (now (list .entry)) (now (hints .entry)) table x) ⌝ }
 {
-    let g = hint_for(list, hints, table, x);
-    let h = nudge(list, x, g);
+    let h = hint_for(list, hints, table, x);
     if is_between(list, table, x, h) {
         return h;
+    }
+    if is_between(list, table, x, h + 1) {
+        return h + 1;
     }
     if is_outside(table, x) {
         return 4096;
     }
-    near_bin(list, x, g)
+    near_bin(list, x, h)
 }
 
 // The same, with the way that most values take in front.
@@ -290,15 +284,12 @@ fn quick_bin(list: &[f64], hints: &[u8], table: Table, x: f64) -> usize
     if !floats::is_nan(place) {
         let q = (f64::to_bits(place) % 4096) as usize;
         if q < hints.len() {
-            let g = hints[q] as usize;
-            if g < n {
-                let h = g + ((list[g + 1] < x) as usize);
-                if h < n {
-                    if list[h] < x {
-                        if x < list[h + 1] {
-                            if x < table.last {
-                                return h;
-                            }
+            let h = hints[q] as usize;
+            if h < n {
+                if list[h] < x {
+                    if x < list[h + 1] {
+                        if x < table.last {
+                            return h;
                         }
                     }
                 }

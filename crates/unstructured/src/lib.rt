@@ -977,7 +977,7 @@ fn fill_many(
 // Few second points: hints would not pay.
 fn few_points(edges: BuiltEdges, n: usize) -> bool {
     match edges {
-        BuiltEdges::Regular(_) => n < 33,
+        BuiltEdges::Regular(_) => n < 20,
         BuiltEdges::Irregular => n < 10,
     }
 }
