@@ -19,7 +19,7 @@ use Rattle.definitions.specs.Lists.{at}
 use Rattle.definitions.specs.Bins.{below}
 use Rattle.definitions.specs.Points as points
 use Rattle.definitions.specs.Points.{squaredDiffNorm}
-use Rattle.definitions.specs.Reducer.{Datum, componentSum, pairIn, datumOf}
+use Rattle.definitions.specs.Reducer.{Datum, kept, dropped, componentSum, pairIn, datumOf}
 use Rattle.laws.proofs.Loops.{runOn, run-append}
 use Rattle.bins.specs.declared.BinIndex.{BinIndex}
 use Rattle.bins.specs.declared.BinIndex.the-variants.{At, None}
@@ -28,7 +28,8 @@ use Rattle.reducer.specs.declared.BuiltEdges.{BuiltEdges}
 use Rattle.reducer.specs.declared.PairOperation.{PairOperation}
 use Rattle.reducer.specs.declared.Reducer.{Reducer}
 use Rattle.reducer.specs.declared.Reducer.the-variants.{Comp0Mean, ComponentSumMean, ComponentSumHistogram}
-use Rattle.reducer.specs.Readings.{opOf}
+use Rattle.reducer.specs.declared.Datum as declared
+use Rattle.reducer.specs.Readings.{opOf, theDatum}
 use Rattle.reducer.specs.Consume.{reducerSize, builtBins, builtBin, hasRoom, addIn, consumedAt, consumed}
 use Rattle.reducer.proofs.Ways.{consumed-found}
 use Rattle.edge_table.specs.declared.Table.{Table}
@@ -38,6 +39,7 @@ use Rattle.edge_table.proofs.Batch.{found-bins}
 use Rattle.edge_table.proofs.Lookup.{bin-low, bin-high, found-bin}
 use Rattle.unstructured.specs.declared.Setup.{Setup}
 use Rattle.unstructured.specs.declared.Pair.{Pair}
+use Rattle.unstructured.specs.declared.Pair.the-variants.{Kept, Dropped}
 use Rattle.unstructured.specs.Pairs.{thePair, pointIn, builtPair, pairAdded, pairStep, rowAdded}
 use Rattle.unstructured.specs.Batches.{Listed, bit, inside, also, keptBelow, picked, numberedPair, pairPlaced, pairValues, placedTo, weightDatum, weightsTo, valueNumbers, placesAdded}
 
@@ -420,16 +422,28 @@ module _ (setup : Setup) (list valueEdges : List Float) (a : points.Point) (g : 
       (rw (k, e, add-one j)) ∙ sym (row-cons setup list valueEdges a g j (n - (j + 1)) s) ∙ sym (ap (λ (x : ℕ). rowAdded setup list valueEdges a g j x s) d) ∙ inv
 
 -- x is the distance, r the answer of `bin_of`
-module _ (setup : Setup) (list valueEdges : List Float) (a b : points.Point) (table : Table) (tabled : Tabled (setup .edges) list table) (x : Float) (e : x ≡ squaredDiffNorm a b) (r : BinIndex)
-    (h : indexOf r ≡ tableBin (setup .edges) list table x) (s : List Float) where
+module _ (setup : Setup) (list : List Float) (a b : points.Point) (table : Table) (tabled : Tabled (setup .edges) list table) (x : Float) (e : x ≡ squaredDiffNorm a b) (r : BinIndex)
+    (h : indexOf r ≡ tableBin (setup .edges) list table x) where
   one-bin : indexOf r ≡ builtBin (setup .edges) list (squaredDiffNorm a b)
   one-bin = found-bin (setup .edges) list table (squaredDiffNorm a b) (indexOf r) (h ∙ ap (tableBin (setup .edges) list table) e) tabled (is-true _ (add-fits binary64 _ _))
 
-  pub one-kept : (i : ℕ) (d : Datum) (q : List Float) → r ≡ At i → d ≡ datumOf (opOf (setup .op)) (a .rd) (b .rd) → q ≡ consumed (setup .reducer) valueEdges (setup .«n_states») i d s
-      → q ≡ pairStep setup list valueEdges (a, b) s
-  unfolding pairStep builtPair
-  one-kept i d q t w k = k ∙ sym (rw (← one-bin, t, ← w))
+  pub pair-at : (i : ℕ) (d : declared.Datum) → r ≡ At i → theDatum d ≡ datumOf (opOf (setup .op)) (a .rd) (b .rd) → kept i (theDatum d) ≡ builtPair setup list a b
+  unfolding builtPair
+  pair-at i d t w = rw (← one-bin, t, ← w)
 
-  pub one-dropped : r ≡ None → s ≡ pairStep setup list valueEdges (a, b) s
-  unfolding pairStep builtPair
-  one-dropped t = sym (rw (← one-bin, t))
+  pub pair-none : r ≡ None → dropped ≡ builtPair setup list a b
+  unfolding builtPair
+  pair-none t = rw (← one-bin, t)
+
+module _ (setup : Setup) (valueEdges : List Float) (pair : Pair) (s : List Float) where
+  pub consume-kept : (i : ℕ) (c0 c1 c2 w : Float) (q : List Float) → pair ≡ Kept i c0 c1 c2 w
+      → q ≡ consumed (setup .reducer) valueEdges (setup .«n_states») i (record { c0 = c0; c1 = c1; c2 = c2; weight = w }) s → q ≡ pairAdded setup valueEdges (thePair pair) s
+  consume-kept i c0 c1 c2 w q e h = h ∙ (rw e)
+
+  pub consume-dropped : pair ≡ Dropped → s ≡ pairAdded setup valueEdges (thePair pair) s
+  consume-dropped e = rw e
+
+pub one-added : (setup : Setup) (list valueEdges : List Float) (a b : points.Point) (pair : Pair) (s q : List Float) → thePair pair ≡ builtPair setup list a b → q ≡ pairAdded setup valueEdges (thePair pair) s
+    → q ≡ pairStep setup list valueEdges (a, b) s
+unfolding pairStep
+one-added setup list valueEdges a b pair s q e h = h ∙ ap (λ p. pairAdded setup valueEdges p s) e

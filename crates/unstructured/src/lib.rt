@@ -30,7 +30,7 @@ ghost use Rattle.parallel_serial.proofs.Refusals.{Drivable};
 ghost use Rattle.unstructured_points.specs.Readings.{pointsOf, thePoint};
 ghost use Rattle.unstructured_points.specs.Sets.{setsFor};
 ghost use Rattle.unstructured.specs.Readings.{setsRun, autoRun, crossRun};
-ghost use Rattle.unstructured.specs.Pairs.{thePair, pointIn, pointsIn, Holds, Readable, Held, firstPartner, pairStep, rowAdded, filled};
+ghost use Rattle.unstructured.specs.Pairs.{thePair, pointIn, pointsIn, Holds, Readable, Held, firstPartner, builtPair, pairAdded, pairStep, rowAdded, filled};
 ghost use Rattle.unstructured.specs.Batches.{UsableRun, TabledRun, Rooms, Listed, inside, keptBelow, picked, numberedPair, pairPlaced, pairValues, placedTo, weightsTo, valueNumbers, placesAdded};
 
 // What a pair yields: a bin, three component values and a weight, or nothing.
@@ -807,7 +807,39 @@ fn fill_tabled(
 
 // ---- few second points: no hints, no room
 
-// The pair of a and b.
+// The pair of a and b; dropped where its distance has no bin.
+fn pair_found(setup: Setup, list: &[f64], table: Table, a: Point, b: Point) -> Pair
+    requires { ⌜ Tabled (setup .edges) (now list) table ⌝ }
+    ensures { λ r. ⌜ thePair r ≡ builtPair setup (now (list .entry)) (thePoint a) (thePoint b) ⌝ }
+{
+    let edges = setup.edges;
+    let distance = unstructured_points::squared_diff_norm(a, b);
+    match edge_table::bin_of(edges, list, table, distance) {
+        BinIndex::At(bin) => {
+            let op = setup.op;
+            let first = a.rd;
+            let second = b.rd;
+            let datum = reducer::datum_of(op, first, second);
+            Pair::Kept(bin, datum.c0, datum.c1, datum.c2, datum.weight)
+        }
+        BinIndex::None => Pair::Dropped,
+    }
+}
+
+// The value of a histogram's pair is looked up here.
+fn consume_pair(setup: Setup, value_edges: &[f64], pair: Pair, scratch: &mut [f64])
+    ensures { λ _. ⌜ now (scratch .exit) ≡ pairAdded setup (now («value_edges» .entry)) (thePair pair) (now (scratch .entry)) ⌝ }
+{
+    match pair {
+        Pair::Kept(bin, c0, c1, c2, weight) => {
+            let kind = setup.reducer;
+            let d = Datum { c0, c1, c2, weight };
+            reducer::consume(kind, value_edges, setup.n_states, bin, d, scratch)
+        }
+        Pair::Dropped => {}
+    }
+}
+
 fn add_one(
     setup: Setup,
     list: &[f64],
@@ -820,19 +852,8 @@ fn add_one(
     requires { ⌜ Tabled (setup .edges) (now list) table ⌝ }
     ensures { λ _. ⌜ now (scratch .exit) ≡ pairStep setup (now (list .entry)) (now («value_edges» .entry)) (thePoint a, thePoint b) (now (scratch .entry)) ⌝ }
 {
-    let edges = setup.edges;
-    let distance = unstructured_points::squared_diff_norm(a, b);
-    match edge_table::bin_of(edges, list, table, distance) {
-        BinIndex::At(bin) => {
-            let op = setup.op;
-            let kind = setup.reducer;
-            let first = a.rd;
-            let second = b.rd;
-            let datum = reducer::datum_of(op, first, second);
-            reducer::consume(kind, value_edges, setup.n_states, bin, datum, scratch)
-        }
-        BinIndex::None => {}
-    }
+    let pair = pair_found(setup, list, table, a, b);
+    consume_pair(setup, value_edges, pair, scratch);
 }
 
 // The pairs of a with the points from `from` on.
