@@ -25,9 +25,9 @@ use Rattle.reducer.specs.declared.BuiltEdges.{BuiltEdges}
 use Rattle.reducer.specs.declared.BuiltEdges.the-variants.{Regular, Irregular}
 use Rattle.reducer.specs.Consume.{builtBin}
 use Rattle.edge_table.specs.declared.Table.{Table}
-use Rattle.edge_table.specs.Table.{placeOf, bit, numberOr, between, outsideOf, holds, climb, climb32, halved, halvedBin, nearBin, hintFor, guessedBin, hintedBin, batchBin, foundOf}
+use Rattle.edge_table.specs.Table.{placeOf, bit, numberOr, between, outsideOf, holds, stepUp, climb, located, locatedBin, nearBin, hintFor, guessedBin, hintedBin, batchBin, foundOf}
 use Rattle.edge_table.specs.Tabled.{Searchable, Tabled}
-use Rattle.edge_table.proofs.Lookup.{outside, none-outside, and-true, enclosed-bin, tested, held-bin, halved-found}
+use Rattle.edge_table.proofs.Lookup.{outside, none-outside, and-true, enclosed-bin, tested, held-bin, located-found}
 
 -- ---- the tests of a bin
 module _ (list : List Float) (table : Table) (x : Float) (h n : ℕ) (e : n ≡ length list - 1) where
@@ -69,34 +69,34 @@ module _ (list : List Float) (x : Float) (h : ℕ) (r : Bool) (q : r ≡ isNan x
       unfolding holds
       holds-is b z w = rw (← q, t, ← e, lt-ltb h n l, ← u, ← v, le-leb a k z, ← w)
 
--- ---- the search by halves
-pub climb-is : (list : List Float) (x edge : Float) (w b : ℕ) → edge ≡ at list (b + w) → b + w * bit (le edge x) ≡ climb list x w b
-unfolding climb
-climb-is list x edge w b e = rw e
+-- ---- the search by quarters
+pub step-is : (list : List Float) (x edge : Float) (i w : ℕ) → edge ≡ at list i → w * bit (le edge x) ≡ stepUp list x i w
+unfolding stepUp
+step-is list x edge i w e = rw e
 
 module _ (list : List Float) (x : Float) where
-  pub climb-32 : (b c d e f r : ℕ) → c ≡ climb list x 16 b → d ≡ climb list x 8 c → e ≡ climb list x 4 d → f ≡ climb list x 2 e → r ≡ climb list x 1 f → r ≡ climb32 list x b
-  unfolding climb32
-  climb-32 b c d e f r p q s t u = rw (← p, ← q, ← s, ← t) u
+  pub climb-is : (w b p q r : ℕ) → p ≡ stepUp list x (b + w) w → q ≡ stepUp list x (b + 2 * w) w → r ≡ stepUp list x (b + 3 * w) w → b + (p + q + r) ≡ climb list x w b
+  unfolding climb
+  climb-is w b p q r e f g = rw (e, f, g)
 
-  pub halved-few : (r : ℕ) → length list ≤ 33 → r ≡ climb32 list x 0 → r ≡ halved list x
-  unfolding halved
-  halved-few r h e = rw (le-leb (length list) 33 h) e
+  pub located-few : (c d s : ℕ) → length list ≤ 33 → c ≡ climb list x 8 0 → d ≡ climb list x 2 c → s ≡ stepUp list x (d + 1) 1 → d + s ≡ located list x
+  unfolding located
+  located-few c d s h p q t = rw (le-leb (length list) 33 h, ← p, ← q, t)
 
-  pub halved-many : (c d e r : ℕ) → 33 < length list → c ≡ climb list x 128 0 → d ≡ climb list x 64 c → e ≡ climb list x 32 d → r ≡ climb32 list x e → r ≡ halved list x
-  unfolding halved
-  halved-many c d e r h p q s t = rw (lt-leb (length list) 33 h, ← p, ← q, ← s) t
+  pub located-many : (c d e r : ℕ) → 33 < length list → c ≡ climb list x 64 0 → d ≡ climb list x 16 c → e ≡ climb list x 4 d → r ≡ climb list x 1 e → r ≡ located list x
+  unfolding located
+  located-many c d e r h p q s t = rw (lt-leb (length list) 33 h, ← p, ← q, ← s) t
 
--- ---- one value; g is the answer of `halve`, s and t of `is_held`
+-- ---- one value; g is the answer of `locate`, s and t of `is_held`
 module _ (list : List Float) (x : Float) (s : Bool) where
-  module _ (g : ℕ) (e : g ≡ halved list x) (q : s ≡ holds list x g) where
-    pub halved-right : s ≡ true → some g ≡ halvedBin list x
-    unfolding halvedBin
-    halved-right h = rw (← e, ← q, h)
+  module _ (g : ℕ) (e : g ≡ located list x) (q : s ≡ holds list x g) where
+    pub located-right : s ≡ true → some g ≡ locatedBin list x
+    unfolding locatedBin
+    located-right h = rw (← e, ← q, h)
 
-    pub halved-plain : (o : Option ℕ) → s ≡ false → o ≡ builtBin Irregular list x → o ≡ halvedBin list x
-    unfolding halvedBin
-    halved-plain o h p = rw (← e, ← q, h) p
+    pub located-plain : (o : Option ℕ) → s ≡ false → o ≡ builtBin Irregular list x → o ≡ locatedBin list x
+    unfolding locatedBin
+    located-plain o h p = rw (← e, ← q, h) p
 
   module _ (h : ℕ) (q : s ≡ holds list x h) where
     pub near-this : s ≡ true → h ≡ numberOr (nearBin list x h)
@@ -108,7 +108,7 @@ module _ (list : List Float) (x : Float) (s : Bool) where
       unfolding nearBin
       near-next b = rw (← q, a, ← p, b)
 
-      pub near-search : (o : Option ℕ) (r : ℕ) → t ≡ false → o ≡ halvedBin list x → r ≡ numberOr o → r ≡ numberOr (nearBin list x h)
+      pub near-search : (o : Option ℕ) (r : ℕ) → t ≡ false → o ≡ locatedBin list x → r ≡ numberOr o → r ≡ numberOr (nearBin list x h)
       unfolding nearBin
       near-search o r b e u = rw (← q, a, ← p, b, ← e) u
 
@@ -118,7 +118,7 @@ module _ (list : List Float) (hints : List ℕ) (table : Table) (x : Float) (p :
   unfolding hintFor
   hint-is h = rw (← e, lt-ltb p (length hints) h)
 
-  pub hint-none : (r : ℕ) → length hints ≤ p → r ≡ halved list x → r ≡ hintFor list hints table x
+  pub hint-none : (r : ℕ) → length hints ≤ p → r ≡ located list x → r ≡ hintFor list hints table x
   unfolding hintFor
   hint-none r h q = rw (← e, le-ltb p (length hints) h) q
 
@@ -274,7 +274,7 @@ module _ (es : List Float) (u : Searchable es) (x : Float) (f : fits binary64 x 
   near-found : (h : ℕ) → nearBin es x h ≡ builtBin Irregular es x
   unfolding nearBin
   near-found h =
-      tested (holds es x h) h _ _ (held-bin es u x f inside h) (tested (holds es x (h + 1)) (h + 1) _ _ (held-bin es u x f inside (h + 1)) (halved-found es u x f inside))
+      tested (holds es x h) h _ _ (held-bin es u x f inside h) (tested (holds es x (h + 1)) (h + 1) _ _ (held-bin es u x f inside (h + 1)) (located-found es u x f inside))
 
 module _ (es : List Float) (hints : List ℕ) (table : Table) where
   hinted-found : (x : Float) → Tabled Irregular es table → fits binary64 x ≡ true → hintedBin es hints table x ≡ builtBin Irregular es x

@@ -30,7 +30,7 @@ use Rattle.reducer.specs.declared.Reducer.the-variants.{Comp0Mean, ComponentSum
 use Rattle.reducer.specs.Readings.{edgesOf, kindOf}
 use Rattle.reducer.specs.Consume.{madeEdges, made, builtBin}
 use Rattle.edge_table.specs.declared.Table.{Table}
-use Rattle.edge_table.specs.Table.{tableOf, holds, halved, halvedBin, outsideOf, edgeBin, tableBin, valueTableOf}
+use Rattle.edge_table.specs.Table.{tableOf, holds, located, locatedBin, outsideOf, edgeBin, tableBin, valueTableOf}
 use Rattle.edge_table.specs.Tabled.{Searchable, Usable, EndsOf, Tabled, UsableValues, TabledValues}
 
 -- ---- a value outside the ends has no bin
@@ -108,9 +108,9 @@ module _ (es : List Float) (u : Searchable es) (x : Float) (f : fits binary64 x 
       let r = and-true (not (isNan x)) (ltb g (length es - 1)) (q .0) in
       enclosed-bin es u x f g (ltb-true _ _ (r .1)) (leb-true _ _ (q .1)) (ltb-true _ _ (p .1)) (inside (not-true (isNan x) (r .0)))
 
-  pub halved-found : halvedBin es x ≡ builtBin Irregular es x
-  unfolding halvedBin
-  halved-found = tested (holds es x (halved es x)) (halved es x) _ _ (held-bin (halved es x)) refl
+  pub located-found : locatedBin es x ≡ builtBin Irregular es x
+  unfolding locatedBin
+  located-found = tested (holds es x (located es x)) (located es x) _ _ (held-bin (located es x)) refl
 
 -- ---- a table's edges
 module _ (es : List Float) (x : Float) (f : fits binary64 x ≡ true) (table : Table) where
@@ -118,9 +118,9 @@ module _ (es : List Float) (x : Float) (f : fits binary64 x ≡ true) (table : T
   unfolding edgeBin outsideOf
   edge-found t = rw (t .ends .0, t .ends .1) (go (outside es x) refl)
     where
-      go : (b : Bool) → outside es x ≡ b → cond b none (halvedBin es x) ≡ builtBin Irregular es x
+      go : (b : Bool) → outside es x ≡ b → cond b none (locatedBin es x) ≡ builtBin Irregular es x
       go true v = none-outside es x v
-      go false v = halved-found es (t .usable) x f (λ n. v)
+      go false v = located-found es (t .usable) x f (λ n. v)
 
   table-bin : (edges : BuiltEdges) → Tabled edges es table → tableBin edges es table x ≡ builtBin edges es x
   unfolding tableBin

@@ -21,7 +21,7 @@ use Rattle.reducer.specs.declared.Reducer.{Reducer}
 use Rattle.reducer.specs.declared.Reducer.the-variants.{ComponentSumHistogram}
 use Rattle.reducer.specs.Consume.{builtBin}
 use Rattle.edge_table.specs.declared.Table.{Table}
-use Rattle.edge_table.specs.Table.{tableOf, placeOf, endOf, spread, binHinted, hintsOf, bit, halvedBin, outsideOf, edgeBin, tableBin, valueTableOf}
+use Rattle.edge_table.specs.Table.{tableOf, placeOf, endOf, spread, binHinted, hintsOf, bit, locatedBin, outsideOf, edgeBin, tableBin, valueTableOf}
 
 -- ---- hints
 module _ (q m : ℕ) where
@@ -128,9 +128,9 @@ module _ (list : List Float) (table : Table) (x : Float) (r : Bool) (q : r ≡ o
   unfolding edgeBin
   edge-outside t = rw (← q, t)
 
-  pub edge-halved : (o : Option ℕ) → r ≡ false → o ≡ halvedBin list x → o ≡ edgeBin list table x
+  pub edge-located : (o : Option ℕ) → r ≡ false → o ≡ locatedBin list x → o ≡ edgeBin list table x
   unfolding edgeBin
-  edge-halved o t e = rw (← q, t) e
+  edge-located o t e = rw (← q, t) e
 
 module _ (edges : BuiltEdges) (list : List Float) (table : Table) (x : Float) (o : Option ℕ) where
   pub bin-regular : (e : RegularBinEdges) → edges ≡ Regular e → o ≡ builtBin edges list x → o ≡ tableBin edges list table x

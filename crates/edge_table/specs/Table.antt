@@ -56,27 +56,28 @@ bit false = 0
 unfoldable pub holds : List Float → Float → ℕ → Bool
 holds list x h = not (isNan x) && ltb h (length list - 1) && leb (orderKey (at list h)) (orderKey x) && ltb (orderKey x) (orderKey (at list (h + 1)))
 
--- w up from b where that edge is not above x
+-- w where edge i is not above x
+unfoldable pub stepUp : List Float → Float → ℕ → ℕ → ℕ
+stepUp list x i w = w * bit (le (at list i) x)
+
+-- one of four parts of w bins each from b on
 unfoldable pub climb : List Float → Float → ℕ → ℕ → ℕ
-climb list x w b = b + w * bit (le (at list (b + w)) x)
+climb list x w b = b + (stepUp list x (b + w) w + stepUp list x (b + 2 * w) w + stepUp list x (b + 3 * w) w)
 
--- of the 32 bins from b on
-unfoldable pub climb32 : List Float → Float → ℕ → ℕ
-climb32 list x b = climb list x 1 (climb list x 2 (climb list x 4 (climb list x 8 (climb list x 16 b))))
+-- the search by quarters in at most 256 bins
+unfoldable pub located : List Float → Float → ℕ
+located list x =
+    cond (leb (length list) 33) (climb list x 2 (climb list x 8 0) + stepUp list x (climb list x 2 (climb list x 8 0) + 1) 1) (climb list x 1 (climb list x 4 (climb list x 16 (climb list x 64 0))))
 
--- the search by halves in at most 256 bins
-unfoldable pub halved : List Float → Float → ℕ
-halved list x = cond (leb (length list) 33) (climb32 list x 0) (climb32 list x (climb list x 32 (climb list x 64 (climb list x 128 0))))
-
--- what the search by halves finds, where it holds the value; else the plain lookup
-unfoldable pub halvedBin : List Float → Float → Option ℕ
-halvedBin list x = cond (holds list x (halved list x)) (some (halved list x)) (builtBin Irregular list x)
+-- what the search by quarters finds, where it holds the value; else the plain lookup
+unfoldable pub locatedBin : List Float → Float → Option ℕ
+locatedBin list x = cond (holds list x (located list x)) (some (located list x)) (builtBin Irregular list x)
 
 unfoldable pub outsideOf : Table → Float → Bool
 outsideOf table x = isNan x || lt x (table .first) || le (table .last) x
 
 unfoldable pub edgeBin : List Float → Table → Float → Option ℕ
-edgeBin list table x = cond (outsideOf table x) none (halvedBin list x)
+edgeBin list table x = cond (outsideOf table x) none (locatedBin list x)
 
 unfoldable pub tableBin : BuiltEdges → List Float → Table → Float → Option ℕ
 tableBin (Regular e) list table x = builtBin (Regular e) list x
@@ -110,11 +111,11 @@ between list table x h = ltb h (length list - 1) && (lt (at list h) x && (lt x (
 
 -- h or the bin after it, where it holds the value
 unfoldable pub nearBin : List Float → Float → ℕ → Option ℕ
-nearBin list x h = cond (holds list x h) (some h) (cond (holds list x (h + 1)) (some (h + 1)) (halvedBin list x))
+nearBin list x h = cond (holds list x h) (some h) (cond (holds list x (h + 1)) (some (h + 1)) (locatedBin list x))
 
--- the hint at the value's place; where there is none, what the search by halves finds
+-- the hint at the value's place; where there is none, what the search by quarters finds
 unfoldable pub hintFor : List Float → List ℕ → Table → Float → ℕ
-hintFor list hints table x = cond (ltb (placeOf table x) (length hints)) (getD hints (placeOf table x) 0) (halved list x)
+hintFor list hints table x = cond (ltb (placeOf table x) (length hints)) (getD hints (placeOf table x) 0) (located list x)
 
 -- of the guess h: it or the bin after it, tested by the edges, then by the keys
 unfoldable pub guessedBin : List Float → Table → Float → ℕ → Option ℕ

@@ -1,18 +1,18 @@
-// Lookups in edges by a table: hints are made once, and each lookup tries a hint's bin, then a search by halves. A guess is tested, so nothing rests on it.
+// Lookups in edges by a table: hints are made once, and each lookup tries a hint's bin, then a search by quarters. A guess is tested, so nothing rests on it.
 use bins::BinIndex;
 use bins::RegularBinEdges;
 use reducer::BuiltEdges;
 use reducer::Reducer;
 ghost use mathlib.Core.Path.{_≡_};
 ghost use mathlib.Core.List.{map};
-ghost use Prim.Native.Nat.{_+_, _-_, _≤_, _<_};
+ghost use Prim.Native.Nat.{_+_, _-_, _*_, _≤_, _<_};
 ghost use lib.ListN.{length, getD};
 ghost use Rattle.definitions.specs.Lists.{at};
 ghost use Rattle.floats.specs.Order.{orderKey};
 ghost use Rattle.bins.specs.Answers.{indexOf};
 ghost use Rattle.reducer.specs.declared.BuiltEdges.the-variants.{Regular};
 ghost use Rattle.reducer.specs.Consume.{builtBin};
-ghost use Rattle.edge_table.specs.Table.{tableOf, placeOf, endOf, spread, binHinted, hintsOf, outsideOf, edgeBin, tableBin, noTable, valueTableOf, numberOr, guessOf, isSure, sureBin, between, holds, climb, climb32, halved, halvedBin, nearBin, hintFor, hintedBin, foundOf};
+ghost use Rattle.edge_table.specs.Table.{tableOf, placeOf, endOf, spread, binHinted, hintsOf, outsideOf, edgeBin, tableBin, noTable, valueTableOf, numberOr, guessOf, isSure, sureBin, between, holds, stepUp, climb, located, locatedBin, nearBin, hintFor, hintedBin, foundOf};
 
 // Ends of the edges, and places of hints a unit of the value.
 pub struct Table {
@@ -132,43 +132,44 @@ fn is_held(list: &[f64], x: f64, h: usize) -> bool
     key < key_of(list[h + 1])
 }
 
-// Without a branch on the value.
+// w where edge i is not above x, else 0; without a branch on the value.
+fn step_up(list: &[f64], x: f64, i: usize, w: usize) -> usize
+    ensures { λ r. ⌜ (r ≡ stepUp (now (list .entry)) x i w) × (r ≤ w) ⌝ }
+{
+    let edge = edge_at(list, i);
+    w * ((edge <= x) as usize)
+}
+
+// One of four parts of w bins each from b on: three tests that do not wait for each other.
 fn climb_by(list: &[f64], x: f64, w: usize, b: usize) -> usize
-    requires { ⌜ b + w ≤ 255 ⌝ }
-    ensures { λ r. ⌜ (r ≡ climb (now (list .entry)) x w b) × (r ≤ b + w) ⌝ }
+    requires { ⌜ b + 3 * w ≤ 255 ⌝ }
+    ensures { λ r. ⌜ (r ≡ climb (now (list .entry)) x w b) × (r ≤ b + 3 * w) ⌝ }
 {
-    let edge = edge_at(list, b + w);
-    b + w * ((edge <= x) as usize)
+    let p = step_up(list, x, b + w, w);
+    let q = step_up(list, x, b + 2 * w, w);
+    let r = step_up(list, x, b + 3 * w, w);
+    b + (p + q + r)
 }
 
-fn climb_32(list: &[f64], x: f64, b: usize) -> usize
-    requires { ⌜ b + 31 ≤ 255 ⌝ }
-    ensures { λ r. ⌜ (r ≡ climb32 (now (list .entry)) x b) × (r ≤ b + 31) ⌝ }
-{
-    let c = climb_by(list, x, 16, b);
-    let d = climb_by(list, x, 8, c);
-    let e = climb_by(list, x, 4, d);
-    let f = climb_by(list, x, 2, e);
-    climb_by(list, x, 1, f)
-}
-
-// The search by halves.
-fn halve(list: &[f64], x: f64) -> usize
-    ensures { λ r. ⌜ (r ≡ halved (now (list .entry)) x) × (r ≤ 255) ⌝ }
+// The search by quarters.
+fn locate(list: &[f64], x: f64) -> usize
+    ensures { λ r. ⌜ (r ≡ located (now (list .entry)) x) × (r ≤ 255) ⌝ }
 {
     if list.len() <= 33 {
-        return climb_32(list, x, 0);
+        let c = climb_by(list, x, 8, 0);
+        let d = climb_by(list, x, 2, c);
+        return d + step_up(list, x, d + 1, 1);
     }
-    let c = climb_by(list, x, 128, 0);
-    let d = climb_by(list, x, 64, c);
-    let e = climb_by(list, x, 32, d);
-    climb_32(list, x, e)
+    let c = climb_by(list, x, 64, 0);
+    let d = climb_by(list, x, 16, c);
+    let e = climb_by(list, x, 4, d);
+    climb_by(list, x, 1, e)
 }
 
-fn halved_bin(list: &[f64], x: f64) -> BinIndex
-    ensures { λ r. ⌜ indexOf r ≡ halvedBin (now (list .entry)) x ⌝ }
+fn located_bin(list: &[f64], x: f64) -> BinIndex
+    ensures { λ r. ⌜ indexOf r ≡ locatedBin (now (list .entry)) x ⌝ }
 {
-    let h = halve(list, x);
+    let h = locate(list, x);
     if is_held(list, x, h) {
         return BinIndex::At(h);
     }
@@ -195,7 +196,7 @@ fn edge_bin(list: &[f64], table: Table, value: f64) -> BinIndex
     if is_outside(table, value) {
         return BinIndex::None;
     }
-    halved_bin(list, value)
+    located_bin(list, value)
 }
 
 // One bin by the table: the edges' own where the table is theirs.
@@ -244,7 +245,7 @@ fn near_bin(list: &[f64], x: f64, h: usize) -> usize
     if is_held(list, x, h + 1) {
         return h + 1;
     }
-    number_of(halved_bin(list, x))
+    number_of(located_bin(list, x))
 }
 
 // The hint at the value's place; few values are not worth a table, and are searched.
@@ -255,7 +256,7 @@ fn hint_for(list: &[f64], hints: &[u8], table: Table, value: f64) -> usize
     if q < hints.len() {
         return hints[q] as usize;
     }
-    halve(list, value)
+    locate(list, value)
 }
 
 // The hint's bin or the one after it, where the value is between its edges; else a search.

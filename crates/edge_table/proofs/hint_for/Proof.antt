@@ -6,7 +6,7 @@ use Rattle.edge_table.proofs.hint_for.Tie as tie
 use Rattle.edge_table.proofs.hint_for.Reads as reads
 use Rattle.edge_table.proofs.hint_for.Lts as lts
 use Rattle.edge_table.proofs.place_of.Reads as place-of-reads
-use Rattle.edge_table.proofs.halve.Reads as halve-reads
+use Rattle.edge_table.proofs.locate.Reads as locate-reads
 
 -- src/lib.rt:112:9
 place-of-requires : tie.Need-place-of-requires
@@ -24,8 +24,8 @@ cast-result c = omega (arith, c .shared-slice-known3 .given (c .before .before .
 returns : tie.Need-returns
 returns c = (search hint-is, omega (arith, c .shared-slice-known3 .given (c .before .before .place-of .result)))
 
-halve-requires : tie.Need-halve-requires
-halve-requires c κs = search needs
+locate-requires : tie.Need-locate-requires
+locate-requires c κs = search needs
 
 -- src/lib.rt:109:1
 returns-2 : tie.Need-returns-2
@@ -33,4 +33,4 @@ returns-2 c = (search hint-none, search needs)
 
 pub hint-for-spec : {M : Type 1} → statement M
 hint-for-spec =
-    tie.close (tie.spec place-of-requires shared-slice-read-result cast-result returns halve-requires returns-2)
+    tie.close (tie.spec place-of-requires shared-slice-read-result cast-result returns locate-requires returns-2)

@@ -4,7 +4,7 @@ use Rattle.edge_table.proofs.near_bin.Statement.{statement}
 use Rattle.edge_table.proofs.near_bin.Tie as tie
 use Rattle.edge_table.proofs.near_bin.Reads as reads
 use Rattle.edge_table.proofs.near_bin.Lts as lts
-use Rattle.edge_table.proofs.halved_bin.Reads as halved-bin-reads
+use Rattle.edge_table.proofs.located_bin.Reads as located-bin-reads
 use Rattle.edge_table.proofs.is_held.Reads as is-held-reads
 use Rattle.edge_table.proofs.number_of.Reads as number-of-reads
 
@@ -33,8 +33,8 @@ returns-2 : tie.Need-returns-2
 returns-2 c = search near-next
 
 -- src/lib.rt:386:15
-halved-bin-requires : tie.Need-halved-bin-requires
-halved-bin-requires c κs = search needs
+located-bin-requires : tie.Need-located-bin-requires
+located-bin-requires c κs = search needs
 
 -- src/lib.rt:386:5
 number-of-requires : tie.Need-number-of-requires
@@ -54,6 +54,6 @@ near-bin-spec =
     is-held-requires-2
     add-result
     returns-2
-    halved-bin-requires
+    located-bin-requires
     number-of-requires
     returns-3)
