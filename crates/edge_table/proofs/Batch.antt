@@ -25,7 +25,7 @@ use Rattle.reducer.specs.declared.BuiltEdges.{BuiltEdges}
 use Rattle.reducer.specs.declared.BuiltEdges.the-variants.{Regular, Irregular}
 use Rattle.reducer.specs.Consume.{builtBin}
 use Rattle.edge_table.specs.declared.Table.{Table}
-use Rattle.edge_table.specs.Table.{placeOf, bit, numberOr, between, outsideOf, holds, stepUp, climb, located, locatedBin, nearBin, hintFor, guessedBin, hintedBin, batchBin, foundOf}
+use Rattle.edge_table.specs.Table.{placeOf, bit, numberOr, between, outsideOf, holds, stepUp, climb, located, locatedBin, hintFor, guessedBin, raisedHint, hintedBin, batchBin, foundOf}
 use Rattle.edge_table.specs.Tabled.{Searchable, Tabled}
 use Rattle.edge_table.proofs.Lookup.{outside, none-outside, and-true, enclosed-bin, tested, held-bin, located-found}
 
@@ -98,20 +98,6 @@ module _ (list : List Float) (x : Float) (s : Bool) where
     unfolding locatedBin
     located-plain o h p = rw (← e, ← q, h) p
 
-  module _ (h : ℕ) (q : s ≡ holds list x h) where
-    pub near-this : s ≡ true → h ≡ numberOr (nearBin list x h)
-    unfolding nearBin
-    near-this a = rw (← q, a)
-
-    module _ (a : s ≡ false) (t : Bool) (p : t ≡ holds list x (h + 1)) where
-      pub near-next : t ≡ true → h + 1 ≡ numberOr (nearBin list x h)
-      unfolding nearBin
-      near-next b = rw (← q, a, ← p, b)
-
-      pub near-search : (o : Option ℕ) (r : ℕ) → t ≡ false → o ≡ locatedBin list x → r ≡ numberOr o → r ≡ numberOr (nearBin list x h)
-      unfolding nearBin
-      near-search o r b e u = rw (← q, a, ← p, b, ← e) u
-
 -- p is the value's place
 module _ (list : List Float) (hints : List ℕ) (table : Table) (x : Float) (p : ℕ) (e : p ≡ placeOf table x) where
   pub hint-is : p < length hints → getD hints p 0 ≡ hintFor list hints table x
@@ -122,32 +108,36 @@ module _ (list : List Float) (hints : List ℕ) (table : Table) (x : Float) (p :
   unfolding hintFor
   hint-none r h q = rw (← e, le-ltb p (length hints) h) q
 
--- h is the hint, s and t the answers of `is_between`
-module _ (list : List Float) (hints : List ℕ) (table : Table) (x : Float) (h : ℕ) (s : Bool) (e : h ≡ hintFor list hints table x) (q : s ≡ between list table x h) where
-  pub hinted-right : s ≡ true → h ≡ numberOr (hintedBin list hints table x)
-  unfolding hintedBin guessedBin
-  hinted-right a = rw (← e, ← q, a)
+-- h is the hint; w, s, t and u the answers of `step_up`, `is_between`, `is_outside` and `is_held`
+module _ (list : List Float) (hints : List ℕ) (table : Table) (x : Float) (h w : ℕ) (e : h ≡ hintFor list hints table x) (r : w ≡ stepUp list x (h + 1) 1) where
+  raised-is : h + w ≡ raisedHint list hints table x
+  unfolding raisedHint
+  raised-is = rw (← e, ← r)
 
-  module _ (a : s ≡ false) (t : Bool) (p : t ≡ between list table x (h + 1)) where
-    pub hinted-next : t ≡ true → h + 1 ≡ numberOr (hintedBin list hints table x)
+  module _ (s : Bool) (q : s ≡ between list table x (h + w)) where
+    pub hinted-right : s ≡ true → h + w ≡ numberOr (hintedBin list hints table x)
     unfolding hintedBin guessedBin
-    hinted-next b = rw (← e, ← q, a, ← p, b)
+    hinted-right a = rw (← raised-is, ← q, a)
 
-    -- r is the answer of `is_outside`
-    module _ (b : t ≡ false) (r : Bool) (o : r ≡ outsideOf table x) where
-      pub hinted-none : r ≡ true → 4096 ≡ numberOr (hintedBin list hints table x)
+    module _ (a : s ≡ false) (t : Bool) (o : t ≡ outsideOf table x) where
+      pub hinted-none : t ≡ true → 4096 ≡ numberOr (hintedBin list hints table x)
       unfolding hintedBin guessedBin
-      hinted-none c = rw (← e, ← q, a, ← p, b, ← o, c)
+      hinted-none b = rw (← raised-is, ← q, a, ← o, b)
 
-      pub hinted-near : (n : ℕ) → r ≡ false → n ≡ numberOr (nearBin list x h) → n ≡ numberOr (hintedBin list hints table x)
-      unfolding hintedBin guessedBin
-      hinted-near n c u = rw (← e, ← q, a, ← p, b, ← o, c) u
+      module _ (b : t ≡ false) (u : Bool) (p : u ≡ holds list x (h + w)) where
+        pub hinted-held : u ≡ true → h + w ≡ numberOr (hintedBin list hints table x)
+        unfolding hintedBin guessedBin
+        hinted-held c = rw (← raised-is, ← q, a, ← o, b, ← p, c)
+
+        pub hinted-search : (v : Option ℕ) (n : ℕ) → u ≡ false → v ≡ locatedBin list x → n ≡ numberOr v → n ≡ numberOr (hintedBin list hints table x)
+        unfolding hintedBin guessedBin
+        hinted-search v n c d z = rw (← raised-is, ← q, a, ← o, b, ← p, c, ← d) z
 
 -- p is the place, n how many bins there are
-pub hinted-quick : (list : List Float) (hints : List ℕ) (table : Table) (x : Float) (p n : ℕ) → p ≡ placeOf table x → p < length hints → n ≡ length list - 1 → getD hints p 0 < n → lt (at list (getD hints p 0)) x ≡ true
-    → lt x (at list (getD hints p 0 + 1)) ≡ true → lt x (table .last) ≡ true → getD hints p 0 ≡ numberOr (hintedBin list hints table x)
-hinted-quick list hints table x p n e w f l a b c =
-    hinted-right list hints table x (getD hints p 0) true (hint-is list hints table x p e w) (sym c ∙ between-is list table x (getD hints p 0) n f l a b) refl
+pub hinted-quick : (list : List Float) (hints : List ℕ) (table : Table) (x : Float) (p w n : ℕ) → p ≡ placeOf table x → p < length hints → w ≡ stepUp list x (getD hints p 0 + 1) 1 → n ≡ length list - 1 → getD hints p 0 + w < n
+    → lt (at list (getD hints p 0 + w)) x ≡ true → lt x (at list (getD hints p 0 + w + 1)) ≡ true → lt x (table .last) ≡ true → getD hints p 0 + w ≡ numberOr (hintedBin list hints table x)
+hinted-quick list hints table x p w n e k r f l a b c =
+    hinted-right list hints table x (getD hints p 0) w (hint-is list hints table x p e k) r true (sym c ∙ between-is list table x (getD hints p 0 + w) n f l a b) refl
 
 -- ---- the loops: f of the first q values is stored
 module _ {B : Type 0} (f : Float → B) (x : List Float) (l : List B) (q : ℕ) (e : length l ≡ length x) (inv : map f x ≡ take q l ++ map f (drop q x)) where
@@ -270,24 +260,17 @@ module _ (es : List Float) (u : Searchable es) (x : Float) (f : fits binary64 x 
       let o : outside es x ≡ false = rw (finite-number x m, above-first g w l m, lt-le x (at es (length es - 1)) (ap (lt x) (sym z) ∙ r .1)) in
       enclosed-bin es u x f g w (le-of-lt l) (key-less x (at es (g + 1)) t (u .held (g + 1)) m b (r .0)) o
 
-module _ (es : List Float) (u : Searchable es) (x : Float) (f : fits binary64 x ≡ true) (inside : isNan x ≡ false → outside es x ≡ false) where
-  near-found : (h : ℕ) → nearBin es x h ≡ builtBin Irregular es x
-  unfolding nearBin
-  near-found h =
-      tested (holds es x h) h _ _ (held-bin es u x f inside h) (tested (holds es x (h + 1)) (h + 1) _ _ (held-bin es u x f inside (h + 1)) (located-found es u x f inside))
-
 module _ (es : List Float) (hints : List ℕ) (table : Table) where
   hinted-found : (x : Float) → Tabled Irregular es table → fits binary64 x ≡ true → hintedBin es hints table x ≡ builtBin Irregular es x
   unfolding hintedBin guessedBin outsideOf
   hinted-found x t f =
-      let h = hintFor es hints table x in
+      let g = raisedHint es hints table x in
       let o : outsideOf table x ≡ outside es x = λ i. isNan x || lt x (t .ends .0 i) || le (t .ends .1 i) x in
-      let w : (g : ℕ) → between es table x g ≡ true → some g ≡ builtBin Irregular es x = λ g. between-bin es (t .usable) x f table g (t .ends .1) in
-      tested (between es table x h) h _ _ (w h) (tested (between es table x (h + 1)) (h + 1) _ _ (w (h + 1)) (go h (outsideOf table x) o))
+      tested (between es table x g) g _ _ (between-bin es (t .usable) x f table g (t .ends .1)) (go g (outsideOf table x) o)
     where
-      go : (g : ℕ) (b : Bool) → b ≡ outside es x → cond b none (nearBin es x g) ≡ builtBin Irregular es x
+      go : (g : ℕ) (b : Bool) → b ≡ outside es x → cond b none (cond (holds es x g) (some g) (locatedBin es x)) ≡ builtBin Irregular es x
       go g true v = none-outside es x (sym v)
-      go g false v = near-found es (t .usable) x f (λ n. sym v) g
+      go g false v = tested (holds es x g) g _ _ (held-bin es (t .usable) x f (λ n. sym v) g) (located-found es (t .usable) x f (λ n. sym v))
 
   batch-bin : (edges : BuiltEdges) → Tabled edges es table → (x : Float) → fits binary64 x ≡ true → batchBin edges es hints table x ≡ builtBin edges es x
   unfolding batchBin

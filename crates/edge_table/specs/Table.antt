@@ -4,7 +4,7 @@ use mathlib.Core.List.{List, map}
 use mathlib.Core.Bool.{Bool, true, false, cond, not, _&&_, _||_}
 use Prim.Native.Nat.{ℕ, zero, suc, _+_, _-_, _*_, _/_, _%_, _^_}
 use lib.Dec.{leb, ltb, eqb}
-use lib.ListN.{length, getD, set}
+use lib.ListN.{length, getD, set, replicate}
 use lib.IntN.{pos}
 use lib.Ieee.{Float, binary64, add, sub, mul, div, lt, le, isNan, ofInt, ofBits, toBits}
 use Rattle.definitions.specs.Lists.{at}
@@ -46,6 +46,14 @@ binHinted table list b hints =
 unfoldable pub hintsOf : Table → List Float → ℕ → List ℕ → List ℕ
 hintsOf table list zero hints = hints
 hintsOf table list (suc b) hints = binHinted table list b (hintsOf table list b hints)
+
+unfoldable pub noHints : List ℕ
+noHints = replicate 4096 0
+
+-- regular edges are found without hints
+abbrev pub hintsFor : BuiltEdges → List Float → Table → List ℕ
+hintsFor (Regular e) list table = noHints
+hintsFor Irregular list table = hintsOf table list (length list - 1) noHints
 
 -- ---- lookups
 abbrev pub bit : Bool → ℕ
@@ -109,20 +117,20 @@ sureBin e x = cond (isSure e x (quotient e x) (guessOf (quotient e x))) (guessOf
 unfoldable pub between : List Float → Table → Float → ℕ → Bool
 between list table x h = ltb h (length list - 1) && (lt (at list h) x && (lt x (at list (h + 1)) && lt x (table .last)))
 
--- h or the bin after it, where it holds the value
-unfoldable pub nearBin : List Float → Float → ℕ → Option ℕ
-nearBin list x h = cond (holds list x h) (some h) (cond (holds list x (h + 1)) (some (h + 1)) (locatedBin list x))
-
 -- the hint at the value's place; where there is none, what the search by quarters finds
 unfoldable pub hintFor : List Float → List ℕ → Table → Float → ℕ
 hintFor list hints table x = cond (ltb (placeOf table x) (length hints)) (getD hints (placeOf table x) 0) (located list x)
 
--- of the guess h: it or the bin after it, tested by the edges, then by the keys
+-- of the guess g, tested by the edges, then by the keys
 unfoldable pub guessedBin : List Float → Table → Float → ℕ → Option ℕ
-guessedBin list table x h = cond (between list table x h) (some h) (cond (between list table x (h + 1)) (some (h + 1)) (cond (outsideOf table x) none (nearBin list x h)))
+guessedBin list table x g = cond (between list table x g) (some g) (cond (outsideOf table x) none (cond (holds list x g) (some g) (locatedBin list x)))
+
+-- the hint, or the bin after it where its upper edge is not above the value
+unfoldable pub raisedHint : List Float → List ℕ → Table → Float → ℕ
+raisedHint list hints table x = hintFor list hints table x + stepUp list x (hintFor list hints table x + 1) 1
 
 unfoldable pub hintedBin : List Float → List ℕ → Table → Float → Option ℕ
-hintedBin list hints table x = guessedBin list table x (hintFor list hints table x)
+hintedBin list hints table x = guessedBin list table x (raisedHint list hints table x)
 
 unfoldable pub batchBin : BuiltEdges → List Float → List ℕ → Table → Float → Option ℕ
 batchBin (Regular e) list hints table x = builtBin (Regular e) list x
@@ -140,3 +148,8 @@ abbrev pub valueTableOf : Reducer → List Float → Float → Table
 valueTableOf Comp0Mean list span = noTable
 valueTableOf ComponentSumMean list span = noTable
 valueTableOf (ComponentSumHistogram e) list span = tableOf e list span
+
+abbrev pub valueHintsFor : Reducer → List Float → Table → List ℕ
+valueHintsFor Comp0Mean list table = noHints
+valueHintsFor ComponentSumMean list table = noHints
+valueHintsFor (ComponentSumHistogram e) list table = hintsFor e list table

@@ -12,7 +12,7 @@ ghost use Rattle.floats.specs.Order.{orderKey};
 ghost use Rattle.bins.specs.Answers.{indexOf};
 ghost use Rattle.reducer.specs.declared.BuiltEdges.the-variants.{Regular};
 ghost use Rattle.reducer.specs.Consume.{builtBin};
-ghost use Rattle.edge_table.specs.Table.{tableOf, placeOf, endOf, spread, binHinted, hintsOf, outsideOf, edgeBin, tableBin, noTable, valueTableOf, numberOr, guessOf, isSure, sureBin, between, holds, stepUp, climb, located, locatedBin, nearBin, hintFor, hintedBin, foundOf};
+ghost use Rattle.edge_table.specs.Table.{tableOf, placeOf, endOf, spread, binHinted, hintsOf, noHints, hintsFor, outsideOf, edgeBin, tableBin, noTable, valueTableOf, valueHintsFor, numberOr, guessOf, isSure, sureBin, between, holds, stepUp, climb, located, locatedBin, hintFor, hintedBin, foundOf};
 
 // Ends of the edges, and places of hints a unit of the value.
 pub struct Table {
@@ -102,7 +102,7 @@ fn hint_bin(list: &[f64], table: Table, b: usize, hints: &mut [u8])
 }
 
 // The hint at a place is the bin of the place's lowest value; the first place stays.
-pub fn fill_hints(list: &[f64], table: Table, hints: &mut [u8])
+fn fill_hints(list: &[f64], table: Table, hints: &mut [u8])
     ensures { λ _. ⌜ now (hints .exit) ≡ hintsOf table (now (list .entry)) (length (now (list .entry)) - 1) (now (hints .entry)) ⌝ }
 {
     let n = reducer::n_bins(BuiltEdges::Irregular, list.len());
@@ -111,6 +111,18 @@ pub fn fill_hints(list: &[f64], table: Table, hints: &mut [u8])
         hint_bin(list, table, b, hints);
         b += 1;
     }
+}
+
+// Regular edges are found without hints.
+pub fn hints_of(edges: BuiltEdges, list: &[f64], table: Table) -> [u8; 4096]
+    ensures { λ r. ⌜ r ≡ hintsFor edges (now (list .entry)) table ⌝ }
+{
+    let mut hints = no_hints();
+    match edges {
+        BuiltEdges::Regular(_) => {}
+        BuiltEdges::Irregular => fill_hints(list, table, &mut hints),
+    }
+    hints
 }
 
 // ---- lookups
@@ -235,19 +247,6 @@ fn number_of(bin: BinIndex) -> usize
     }
 }
 
-fn near_bin(list: &[f64], x: f64, h: usize) -> usize
-    requires { ⌜ h ≤ 255 ⌝ }
-    ensures { λ r. ⌜ r ≡ numberOr (nearBin (now (list .entry)) x h) ⌝ }
-{
-    if is_held(list, x, h) {
-        return h;
-    }
-    if is_held(list, x, h + 1) {
-        return h + 1;
-    }
-    number_of(located_bin(list, x))
-}
-
 // The hint at the value's place; few values are not worth a table, and are searched.
 fn hint_for(list: &[f64], hints: &[u8], table: Table, value: f64) -> usize
     ensures { λ r. ⌜ (r ≡ hintFor (now (list .entry)) (now (hints .entry)) table value) × (r ≤ 255) ⌝ }
@@ -259,21 +258,22 @@ fn hint_for(list: &[f64], hints: &[u8], table: Table, value: f64) -> usize
     locate(list, value)
 }
 
-// The hint's bin or the one after it, where the value is between its edges; else a search.
+// The hint's bin or, where its upper edge is not above the value, the one after it, if that holds the value; else a search.
 fn hinted_bin(list: &[f64], hints: &[u8], table: Table, x: f64) -> usize
     ensures { λ r. ⌜ r ≡ numberOr (hintedBin (now (list .entry)) (now (hints .entry)) table x) ⌝ }
 {
     let h = hint_for(list, hints, table, x);
-    if is_between(list, table, x, h) {
-        return h;
-    }
-    if is_between(list, table, x, h + 1) {
-        return h + 1;
+    let g = h + step_up(list, x, h + 1, 1);
+    if is_between(list, table, x, g) {
+        return g;
     }
     if is_outside(table, x) {
         return 4096;
     }
-    near_bin(list, x, h)
+    if is_held(list, x, g) {
+        return g;
+    }
+    number_of(located_bin(list, x))
 }
 
 // The same, with the way that most values take in front.
@@ -286,11 +286,12 @@ fn quick_bin(list: &[f64], hints: &[u8], table: Table, x: f64) -> usize
         let q = (f64::to_bits(place) % 4096) as usize;
         if q < hints.len() {
             let h = hints[q] as usize;
-            if h < n {
-                if list[h] < x {
-                    if x < list[h + 1] {
+            let g = h + step_up(list, x, h + 1, 1);
+            if g < n {
+                if list[g] < x {
+                    if x < list[g + 1] {
                         if x < table.last {
-                            return h;
+                            return g;
                         }
                     }
                 }
@@ -398,9 +399,8 @@ pub fn bins_of(
     }
 }
 
-// ---- value edges
+// ---- value edges, which a mean has not
 
-// A mean has none.
 pub fn value_table_of(reducer: Reducer, list: &[f64], span: f64) -> Table
     ensures { λ r. ⌜ r ≡ valueTableOf reducer (now (list .entry)) span ⌝ }
 {
@@ -408,6 +408,16 @@ pub fn value_table_of(reducer: Reducer, list: &[f64], span: f64) -> Table
         Reducer::Comp0Mean => no_table(),
         Reducer::ComponentSumMean => no_table(),
         Reducer::ComponentSumHistogram(e) => table_of(e, list, span),
+    }
+}
+
+pub fn value_hints_of(reducer: Reducer, list: &[f64], table: Table) -> [u8; 4096]
+    ensures { λ r. ⌜ r ≡ valueHintsFor reducer (now (list .entry)) table ⌝ }
+{
+    match reducer {
+        Reducer::Comp0Mean => no_hints(),
+        Reducer::ComponentSumMean => no_hints(),
+        Reducer::ComponentSumHistogram(e) => hints_of(e, list, table),
     }
 }
 
@@ -419,4 +429,10 @@ fn no_table() -> Table
         last: 0.0,
         scale: 0.0,
     }
+}
+
+fn no_hints() -> [u8; 4096]
+    ensures { λ r. ⌜ r ≡ noHints ⌝ }
+{
+    [0u8; 4096]
 }

@@ -703,106 +703,9 @@ fn fill_batches(
     }
 }
 
-// How many hints pay for n second points. None where a lookup wants none.
-fn hint_count(edges: BuiltEdges, n: usize) -> usize
-    ensures { λ r. ⌜ r ≤ 4096 ⌝ }
-{
-    match edges {
-        BuiltEdges::Regular(_) => 0,
-        BuiltEdges::Irregular => {
-            if n < 160 {
-                return 512;
-            }
-            4096
-        }
-    }
-}
-
-fn value_hint_count(kind: Reducer, n: usize) -> usize
-    ensures { λ r. ⌜ r ≤ 4096 ⌝ }
-{
-    match kind {
-        Reducer::Comp0Mean => 0,
-        Reducer::ComponentSumMean => 0,
-        Reducer::ComponentSumHistogram(edges) => hint_count(edges, n),
-    }
-}
-
-// How many of the hints the range of the edges takes: two less.
-fn span_of(hints: usize) -> f64 {
-    if hints < 4096 { 510.0 } else { 4094.0 }
-}
-
-fn fill_hints(list: &[f64], table: Table, hints: &mut [u8]) {
-    if hints.len() > 0 {
-        edge_table::fill_hints(list, table, hints);
-    }
-}
-
-// The tables, then all pairs. All but scratch is room.
-fn fill_tabled(
-    auto: bool,
-    setup: Setup,
-    list: &[f64],
-    value_edges: &[f64],
-    a_positions: &[f64],
-    a_values: &[f64],
-    a_weights: &[f64],
-    a_stride: usize,
-    a_n: usize,
-    b_positions: &[f64],
-    b_values: &[f64],
-    b_weights: &[f64],
-    b_stride: usize,
-    b_n: usize,
-    hints: &mut [u8],
-    value_hints: &mut [u8],
-    d: &mut [f64],
-    places: &mut [usize],
-    found: &mut [usize],
-    value_found: &mut [usize],
-    scratch: &mut [f64],
-)
-    requires { ⌜ UsableRun setup (now list) (now «value_edges») ⌝ }
-    requires { ⌜ Readable (now «a_positions») (now «a_values») (now «a_weights») «a_n» «a_stride» ⌝ }
-    requires { ⌜ Readable (now «b_positions») (now «b_values») (now «b_weights») «b_n» «b_stride» ⌝ }
-    requires { ⌜ (auto ≡ true → (pointIn (now «a_positions») (now «a_values») (now «a_weights») «a_stride» ≡ pointIn (now «b_positions») (now «b_values») (now «b_weights») «b_stride») × («a_n» ≡ «b_n»)) ⌝ }
-    requires { ⌜ (0 < length (now d)) × Rooms (length (now d)) (now d) (now places) (now found) (now «value_found») ⌝ }
-    ensures { λ _. ⌜ now (scratch .exit) ≡ filled setup (now (list .entry)) (now («value_edges» .entry)) auto
-        (pointsIn (now («a_positions» .entry)) (now («a_values» .entry)) (now («a_weights» .entry)) «a_stride» «a_n»)
-        (pointsIn (now («b_positions» .entry)) (now («b_values» .entry)) (now («b_weights» .entry)) «b_stride» «b_n») (now (scratch .entry)) ⌝ }
-{
-    let built = setup.edges;
-    let kind = setup.reducer;
-    let edges = edge_table::table_of(built, list, span_of(hints.len()));
-    let values = edge_table::value_table_of(kind, value_edges, span_of(value_hints.len()));
-    fill_hints(list, edges, &mut *hints);
-    fill_hints(value_edges, values, &mut *value_hints);
-    let tables = Tables { edges, values };
-    fill_batches(
-        auto,
-        setup,
-        list,
-        value_edges,
-        &*hints,
-        &*value_hints,
-        tables,
-        a_positions,
-        a_values,
-        a_weights,
-        a_stride,
-        a_n,
-        b_positions,
-        b_values,
-        b_weights,
-        b_stride,
-        b_n,
-        &mut *d,
-        &mut *places,
-        &mut *found,
-        &mut *value_found,
-        scratch,
-    );
+// How many places of hints pay for n second points: the edges' range takes two less than 512, or than all.
+fn hint_span(n: usize) -> f64 {
+    if n < 160 { 510.0 } else { 4094.0 }
 }
 
 // ---- few second points: no hints, no room
@@ -934,7 +837,7 @@ fn fill_few(
     }
 }
 
-// Many second points.
+// Many second points: the tables, the hints and the room, then all pairs.
 fn fill_many(
     auto: bool,
     setup: Setup,
@@ -960,21 +863,25 @@ fn fill_many(
         (pointsIn (now («a_positions» .entry)) (now («a_values» .entry)) (now («a_weights» .entry)) «a_stride» «a_n»)
         (pointsIn (now («b_positions» .entry)) (now («b_values» .entry)) (now («b_weights» .entry)) «b_stride» «b_n») (now (scratch .entry)) ⌝ }
 {
-    let edges = setup.edges;
+    let built = setup.edges;
     let kind = setup.reducer;
-    let h = hint_count(edges, b_n);
-    let value_h = value_hint_count(kind, b_n);
-    let mut hints = [0u8; 4096];
-    let mut value_hints = [0u8; 4096];
+    let span = hint_span(b_n);
+    let edges = edge_table::table_of(built, list, span);
+    let values = edge_table::value_table_of(kind, value_edges, span);
+    let hints = edge_table::hints_of(built, list, edges);
+    let value_hints = edge_table::value_hints_of(kind, value_edges, values);
     let mut d = [0.0f64; 256];
     let mut places = [0usize; 256];
     let mut found = [0usize; 256];
     let mut value_found = [0usize; 256];
-    fill_tabled(
+    fill_batches(
         auto,
         setup,
         list,
         value_edges,
+        &hints,
+        &value_hints,
+        Tables { edges, values },
         a_positions,
         a_values,
         a_weights,
@@ -985,8 +892,6 @@ fn fill_many(
         b_weights,
         b_stride,
         b_n,
-        &mut hints[..h],
-        &mut value_hints[..value_h],
         &mut d,
         &mut places,
         &mut found,
@@ -995,11 +900,16 @@ fn fill_many(
     );
 }
 
-// Few second points: hints would not pay.
-fn few_points(edges: BuiltEdges, n: usize) -> bool {
+// Few second points: hints would not pay, which take longer to make for more bins.
+fn few_points(edges: BuiltEdges, n_states: usize, n: usize) -> bool {
     match edges {
         BuiltEdges::Regular(_) => n < 20,
-        BuiltEdges::Irregular => n < 10,
+        BuiltEdges::Irregular => {
+            if n_states < 65 {
+                return n < 10;
+            }
+            n < 14
+        }
     }
 }
 
@@ -1030,7 +940,7 @@ fn fill(
         (pointsIn (now («b_positions» .entry)) (now («b_values» .entry)) (now («b_weights» .entry)) «b_stride» «b_n») (now (scratch .entry)) ⌝ }
 {
     let edges = setup.edges;
-    if few_points(edges, b_n) {
+    if few_points(edges, setup.n_states, b_n) {
         fill_few(
             auto,
             setup,

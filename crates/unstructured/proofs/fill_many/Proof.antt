@@ -1,64 +1,70 @@
-use mathlib.Core.Path.{sym}
-use lib.Seq.{length-take-le}
+use Rattle.edge_table.proofs.Lookup.{tabled, tabled-values}
 use borrow.Author.Needs.{needs}
 use Rattle.unstructured.proofs.fill_many.Statement.{statement}
 use Rattle.unstructured.proofs.fill_many.Tie as tie
 use Rattle.unstructured.proofs.fill_many.Reads as reads
 use Rattle.unstructured.proofs.fill_many.Lts as lts
-use Rattle.unstructured.proofs.fill_tabled.Reads as fill-tabled-reads
-use Rattle.unstructured.proofs.hint_count.Reads as hint-count-reads
-use Rattle.unstructured.proofs.value_hint_count.Reads as value-hint-count-reads
+use Rattle.edge_table.proofs.hints_of.Reads as hints-of-reads
+use Rattle.edge_table.proofs.table_of.Reads as table-of-reads
+use Rattle.edge_table.proofs.value_hints_of.Reads as value-hints-of-reads
+use Rattle.edge_table.proofs.value_table_of.Reads as value-table-of-reads
+use Rattle.unstructured.proofs.fill_batches.Reads as fill-batches-reads
+use Rattle.unstructured.proofs.hint_span.Reads as hint-span-reads
 
--- src/lib.rt:944:9
-hint-count-requires : tie.Need-hint-count-requires
-hint-count-requires c κs = search needs
+-- src/lib.rt:868:9
+hint-span-requires : tie.Need-hint-span-requires
+hint-span-requires c κs = search needs
 
--- src/lib.rt:945:9
-value-hint-count-requires : tie.Need-value-hint-count-requires
-value-hint-count-requires c κs = search needs
+-- src/lib.rt:869:9
+table-of-requires : tie.Need-table-of-requires
+table-of-requires c κs = search needs
 
--- src/lib.rt:967:9
-array-borrow-prefix-hints : tie.Need-array-borrow-prefix-hints
-array-borrow-prefix-hints c = search needs
+-- src/lib.rt:870:9
+value-table-of-requires : tie.Need-value-table-of-requires
+value-table-of-requires c κs = search needs
 
--- src/lib.rt:967:9
-slice-aggregate-fill-tabled : tie.Need-slice-aggregate-fill-tabled
-slice-aggregate-fill-tabled c = sym (length-take-le _ _ (search needs))
+-- src/lib.rt:871:17
+hints-of-requires : tie.Need-hints-of-requires
+hints-of-requires c κs = search needs
 
--- src/lib.rt:968:9
-array-borrow-prefix-value-hints : tie.Need-array-borrow-prefix-value-hints
-array-borrow-prefix-value-hints c = search needs
+-- src/lib.rt:872:23
+value-hints-of-requires : tie.Need-value-hints-of-requires
+value-hints-of-requires c κs = search needs
 
--- src/lib.rt:968:9
-slice-aggregate-fill-tabled-2 : tie.Need-slice-aggregate-fill-tabled-2
-slice-aggregate-fill-tabled-2 c = sym (length-take-le _ _ (search needs))
+-- src/lib.rt:882:9
+slice-aggregate-fill-batches : tie.Need-slice-aggregate-fill-batches
+slice-aggregate-fill-batches c = search needs
 
--- src/lib.rt:969:9
-slice-aggregate-fill-tabled-3 : tie.Need-slice-aggregate-fill-tabled-3
-slice-aggregate-fill-tabled-3 c = search needs
+-- src/lib.rt:883:9
+slice-aggregate-fill-batches-2 : tie.Need-slice-aggregate-fill-batches-2
+slice-aggregate-fill-batches-2 c = search needs
 
--- src/lib.rt:970:9
-slice-aggregate-fill-tabled-4 : tie.Need-slice-aggregate-fill-tabled-4
-slice-aggregate-fill-tabled-4 c = search needs
+-- src/lib.rt:895:9
+slice-aggregate-fill-batches-3 : tie.Need-slice-aggregate-fill-batches-3
+slice-aggregate-fill-batches-3 c = search needs
 
--- src/lib.rt:971:9
-slice-aggregate-fill-tabled-5 : tie.Need-slice-aggregate-fill-tabled-5
-slice-aggregate-fill-tabled-5 c = search needs
+-- src/lib.rt:896:9
+slice-aggregate-fill-batches-4 : tie.Need-slice-aggregate-fill-batches-4
+slice-aggregate-fill-batches-4 c = search needs
 
--- src/lib.rt:972:9
-slice-aggregate-fill-tabled-6 : tie.Need-slice-aggregate-fill-tabled-6
-slice-aggregate-fill-tabled-6 c = search needs
+-- src/lib.rt:897:9
+slice-aggregate-fill-batches-5 : tie.Need-slice-aggregate-fill-batches-5
+slice-aggregate-fill-batches-5 c = search needs
 
--- src/lib.rt:952:5
-fill-tabled-requires : tie.Need-fill-tabled-requires
-fill-tabled-requires c κs = let s = c .before .before .before .before .before .before .before .before .before .before .before .before .before .before .before .before .before .before in
-    (s .pre .0, (s .pre .1 .0, (s .pre .1 .1 .0, (s .pre .1 .1 .1, (search needs, record { distances = search needs; listed = search needs; bins = search needs; values = search needs })))))
+-- src/lib.rt:898:9
+slice-aggregate-fill-batches-6 : tie.Need-slice-aggregate-fill-batches-6
+slice-aggregate-fill-batches-6 c = search needs
 
--- src/lib.rt:917:1
+-- src/lib.rt:877:5
+fill-batches-requires : tie.Need-fill-batches-requires
+fill-batches-requires c κs = let s = c .before .before .before .before .before .before .before .before .before .before .before .before .before .before .before .before .before .before .before .before .before in
+    (record { edges = tabled _ _ _ _ (s .pre .0 .edges) (c .before .before .before .before .before .before .before .before .before .before .table-of .ensures); values = tabled-values _ _ _ (s .args .setup .reducer) (s .pre .0 .values) (c .before .before .before .before .before .before .before .before .before .value-table-of .ensures) }, (s .pre .1 .0, (s .pre .1 .1 .0, (s .pre .1 .1 .1, (search needs, record { distances = search needs; listed = search needs; bins = search needs; values = search needs })))))
+
+-- src/lib.rt:841:1
 same-length : tie.Need-same-length
 same-length c = search needs
 
--- src/lib.rt:917:1
+-- src/lib.rt:841:1
 returns : tie.Need-returns
 returns c = search needs
 
@@ -66,16 +72,17 @@ pub fill-many-spec : {M : Type 1} → statement M
 fill-many-spec =
     tie.close
     (tie.spec
-    hint-count-requires
-    value-hint-count-requires
-    array-borrow-prefix-hints
-    slice-aggregate-fill-tabled
-    array-borrow-prefix-value-hints
-    slice-aggregate-fill-tabled-2
-    slice-aggregate-fill-tabled-3
-    slice-aggregate-fill-tabled-4
-    slice-aggregate-fill-tabled-5
-    slice-aggregate-fill-tabled-6
-    fill-tabled-requires
+    hint-span-requires
+    table-of-requires
+    value-table-of-requires
+    hints-of-requires
+    value-hints-of-requires
+    slice-aggregate-fill-batches
+    slice-aggregate-fill-batches-2
+    slice-aggregate-fill-batches-3
+    slice-aggregate-fill-batches-4
+    slice-aggregate-fill-batches-5
+    slice-aggregate-fill-batches-6
+    fill-batches-requires
     same-length
     returns)
