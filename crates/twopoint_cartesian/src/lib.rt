@@ -1007,25 +1007,6 @@ fn fill(
     }
 }
 
-// Edges that are found have hints.
-fn hint_room(edges: usize) -> usize
-    ensures { λ r. ⌜ r ≤ 4096 ⌝ }
-{
-    if edges < 2 {
-        return 0;
-    }
-    4096
-}
-
-// They stand in the first `room` places.
-fn hints_of(value_edges: &[f64], table: Table, room: usize) -> [u8; 4096]
-    requires { ⌜ room ≤ 4096 ⌝ }
-{
-    let mut hints = [0u8; 4096];
-    edge_table::fill_hints(value_edges, table, &mut hints[..room]);
-    hints
-}
-
 fn zero_state() -> [f64; 256]
     ensures { λ r. ⌜ r ≡ zeroState ⌝ }
 {
@@ -1066,8 +1047,7 @@ fn fill_tabled(
         distances,
         values: value_table,
     };
-    let hint_room = hint_room(value_edges.len());
-    let hints = hints_of(value_edges, value_table, hint_room);
+    let hints = edge_table::value_hints_of(kind, value_edges, value_table);
     let mut values = [0.0; 64];
     let mut found = [0usize; 64];
     let mut state = zero_state();
@@ -1077,7 +1057,7 @@ fn fill_tabled(
         tables,
         list,
         value_edges,
-        &hints[..hint_room],
+        &hints,
         width,
         a0,
         a1,
