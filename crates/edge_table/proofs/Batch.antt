@@ -27,27 +27,23 @@ use Rattle.reducer.specs.Consume.{builtBin}
 use Rattle.edge_table.specs.declared.Table.{Table}
 use Rattle.edge_table.specs.Table.{placeOf, bit, numberOr, between, outsideOf, holds, stepUp, climb, located, locatedBin, hintFor, guessedBin, raisedHint, hintedBin, batchBin, foundOf}
 use Rattle.edge_table.specs.Tabled.{Searchable, Tabled}
+use Rattle.edge_table.proofs.Order.{lt-self, lt-finite, lt-le, le-lt}
 use Rattle.edge_table.proofs.Lookup.{outside, none-outside, and-true, enclosed-bin, tested, held-bin, located-found}
 
 -- ---- the tests of a bin
-module _ (list : List Float) (table : Table) (x : Float) (h n : ℕ) (e : n ≡ length list - 1) where
-  pub between-past : n ≤ h → false ≡ between list table x h
+module _ (list : List Float) (x : Float) (h n : ℕ) (e : n ≡ length list - 1) where
+  pub between-past : n ≤ h → false ≡ between list x h
   unfolding between
   between-past l = rw (← e, le-ltb h n l)
 
   module _ (l : h < n) where
-    pub between-low : lt (at list h) x ≡ false → false ≡ between list table x h
+    pub between-low : lt (at list h) x ≡ false → false ≡ between list x h
     unfolding between
     between-low t = rw (← e, lt-ltb h n l, t)
 
-    module _ (t : lt (at list h) x ≡ true) where
-      pub between-high : lt x (at list (h + 1)) ≡ false → false ≡ between list table x h
-      unfolding between
-      between-high u = rw (← e, lt-ltb h n l, t, u)
-
-      pub between-is : lt x (at list (h + 1)) ≡ true → lt x (table .last) ≡ between list table x h
-      unfolding between
-      between-is u = rw (← e, lt-ltb h n l, t, u)
+    pub between-is : lt (at list h) x ≡ true → lt x (at list (h + 1)) ≡ between list x h
+    unfolding between
+    between-is t = rw (← e, lt-ltb h n l, t)
 
 -- r is the answer of `is_nan`, k, a and b are the keys
 module _ (list : List Float) (x : Float) (h : ℕ) (r : Bool) (q : r ≡ isNan x) where
@@ -114,7 +110,7 @@ module _ (list : List Float) (hints : List ℕ) (table : Table) (x : Float) (h w
   unfolding raisedHint
   raised-is = rw (← e, ← r)
 
-  module _ (s : Bool) (q : s ≡ between list table x (h + w)) where
+  module _ (s : Bool) (q : s ≡ between list x (h + w)) where
     pub hinted-right : s ≡ true → h + w ≡ numberOr (hintedBin list hints table x)
     unfolding hintedBin guessedBin
     hinted-right a = rw (← raised-is, ← q, a)
@@ -133,11 +129,15 @@ module _ (list : List Float) (hints : List ℕ) (table : Table) (x : Float) (h w
         unfolding hintedBin guessedBin
         hinted-search v n c d z = rw (← raised-is, ← q, a, ← o, b, ← p, c, ← d) z
 
--- p is the place, n how many bins there are
-pub hinted-quick : (list : List Float) (hints : List ℕ) (table : Table) (x : Float) (p w n : ℕ) → p ≡ placeOf table x → p < length hints → w ≡ stepUp list x (getD hints p 0 + 1) 1 → n ≡ length list - 1 → getD hints p 0 + w < n
-    → lt (at list (getD hints p 0 + w)) x ≡ true → lt x (at list (getD hints p 0 + w + 1)) ≡ true → lt x (table .last) ≡ true → getD hints p 0 + w ≡ numberOr (hintedBin list hints table x)
-hinted-quick list hints table x p w n e k r f l a b c =
-    hinted-right list hints table x (getD hints p 0) w (hint-is list hints table x p e k) r true (sym c ∙ between-is list table x (getD hints p 0 + w) n f l a b) refl
+-- p is the place, n how many bins there are; below its upper edge the hint is not raised
+pub hinted-quick : (list : List Float) (hints : List ℕ) (table : Table) (x : Float) (p n : ℕ) → p ≡ placeOf table x → p < length hints → n ≡ length list - 1 → getD hints p 0 < n
+    → lt (at list (getD hints p 0)) x ≡ true → lt x (at list (getD hints p 0 + 1)) ≡ true → getD hints p 0 ≡ numberOr (hintedBin list hints table x)
+unfolding stepUp
+hinted-quick list hints table x p n e k f l a b =
+    let h = getD hints p 0 in
+    let r : 0 ≡ 1 * bit (le (at list (h + 1)) x) = rw (lt-le x (at list (h + 1)) b) in
+    let z : h + 0 ≡ h = omega arith in
+    sym z ∙ hinted-right list hints table x h 0 (hint-is list hints table x p e k) r true (sym b ∙ between-is list x h n f l a ∙ ap (between list x) (sym z)) refl
 
 -- ---- the loops: f of the first q values is stored
 module _ {B : Type 0} (f : Float → B) (x : List Float) (l : List B) (q : ℕ) (e : length l ≡ length x) (inv : map f x ≡ take q l ++ map f (drop q x)) where
@@ -170,26 +170,6 @@ module _ (edges : BuiltEdges) (list : List Float) (hints : List ℕ) (table : Ta
     found-regular e l t p = p ∙ (λ i. map (λ v. numberOr (batchBin (sym t i) list hints table v)) x) ∙ sym found-map
 
 -- ---- the edges' own bins
-lt-self : (x : Float) → lt x x ≡ false
-unfolding lt
-lt-self nan = refl
-lt-self (inf true) = refl
-lt-self (inf false) = refl
-lt-self (fin true m e) = le-ltb (m * up e * down e) (m * up e * down e) (le-refl _)
-lt-self (fin false m e) = le-ltb (m * up e * down e) (m * up e * down e) (le-refl _)
-
--- a number between two finite ones
-lt-finite : (a x b : Float) → T (finite a) → T (finite b) → lt a x ≡ true → lt x b ≡ true → T (finite x)
-unfolding lt
-lt-finite nan x b p q h k = absurd p
-lt-finite (inf s) x b p q h k = absurd p
-lt-finite (fin s m e) (fin t n d) b p q h k = tt
-lt-finite (fin s m e) nan b p q h k = absurd (true≢false (sym h))
-lt-finite (fin s m e) (inf true) b p q h k = absurd (true≢false (sym h))
-lt-finite (fin s m e) (inf false) nan p q h k = absurd q
-lt-finite (fin s m e) (inf false) (inf t) p q h k = absurd q
-lt-finite (fin s m e) (inf false) (fin t n d) p q h k = absurd (true≢false (sym k))
-
 finite-number : (x : Float) → T (finite x) → isNan x ≡ false
 unfolding isNan
 finite-number nan h = absurd h
@@ -206,33 +186,6 @@ key-less x y f g a b h =
     ⊎-elim (λ (e : orderKey x ≡ orderKey y). absurd (true≢false (sym h ∙ ap (lt x) (sym (key-injective x y f g e)) ∙ lt-self x))) (λ (l : orderKey x < orderKey y). l)
     (eq-or-lt-of-le (key-mono x y f g a b (subst T (sym h) tt)))
 
--- ±a < ±b, so not ±b ≤ ±a
-below-level : (s t : Bool) (a b : ℕ) → below s a t b ≡ true → (below t b s a || level t b s a) ≡ false
-below-level false false a b h = rw (le-ltb b a (le-of-lt (ltb-true a b h)), ne-eqb b a (λ e. omega (arith, e, ltb-true a b h)))
-below-level false true a b h = absurd (true≢false (sym h))
-below-level true true a b h = rw (le-ltb a b (le-of-lt (ltb-true b a h)), ne-eqb b a (λ e. omega (arith, e, ltb-true b a h)))
-below-level true false a b h = go (eqb b a) (eqb b 0) refl refl
-  where
-    go : (p q : Bool) → eqb b a ≡ p → eqb b 0 ≡ q → (false || (p && (false || q))) ≡ false
-    go true true p q = absurd (omega (arith, eqb-true b a p, eqb-true b 0 q, ltb-true 0 (a + b) h))
-    go true false p q = refl
-    go false q p r = refl
-
--- a value below a number is not at or above it
-lt-le : (x y : Float) → lt x y ≡ true → le y x ≡ false
-unfolding le lt eq
-lt-le nan y h = absurd (true≢false (sym h))
-lt-le (inf s) nan h = absurd (true≢false (sym h))
-lt-le (inf true) (inf true) h = absurd (true≢false (sym h))
-lt-le (inf true) (inf false) h = refl
-lt-le (inf false) (inf t) h = absurd (true≢false (sym h))
-lt-le (inf true) (fin t n d) h = refl
-lt-le (inf false) (fin t n d) h = absurd (true≢false (sym h))
-lt-le (fin s m e) nan h = absurd (true≢false (sym h))
-lt-le (fin s m e) (inf true) h = absurd (true≢false (sym h))
-lt-le (fin s m e) (inf false) h = refl
-lt-le (fin s m e) (fin t n d) h = below-level s t (m * up e * down d) (n * up d * down e) h
-
 module _ (es : List Float) (u : Searchable es) (x : Float) (f : fits binary64 x ≡ true) where
   above-first : (g : ℕ) → g < length es - 1 → orderKey (at es g) < orderKey x → T (finite x) → lt x (at es 0) ≡ false
   above-first g w l m = go (lt x (at es 0)) refl
@@ -244,21 +197,33 @@ module _ (es : List Float) (u : Searchable es) (x : Float) (f : fits binary64 x 
           (omega
           (arith, l, sorted es (u .held) (u .finite) (u .increasing) 0 g (omega arith) (omega arith), key-less x (at es 0) (subst T (sym f) tt) (u .held 0) m (finite-at es 0 (u .finite) (omega arith)) e))
 
-  -- strictly between two edges, and below the last: inside the ends
-  between-bin : (table : Table) (g : ℕ) → table .last ≡ at es (length es - 1) → between es table x g ≡ true → some g ≡ builtBin Irregular es x
+  below-last : (g : ℕ) → g < length es - 1 → lt x (at es (g + 1)) ≡ true → T (finite x) → le (at es (length es - 1)) x ≡ false
+  below-last g w l m = go (le (at es (length es - 1)) x) refl
+    where
+      go : (b : Bool) → le (at es (length es - 1)) x ≡ b → b ≡ false
+      go false e = refl
+      go true e =
+          let n = length es - 1 in
+          let p = finite-at es n (u .finite) (omega arith) in
+          let q = finite-at es (g + 1) (u .finite) (omega arith) in
+          absurd
+          (omega
+          (arith, sorted es (u .held) (u .finite) (u .increasing) (g + 1) n (omega arith) (omega arith), key-less (at es n) (at es (g + 1)) (u .held n) (u .held (g + 1)) p q (le-lt (at es n) x (at es (g + 1)) p m q e l)))
+
+  -- strictly between two edges: inside the ends
+  between-bin : (g : ℕ) → between es x g ≡ true → some g ≡ builtBin Irregular es x
   unfolding between
-  between-bin table g z c =
-      let p = and-true (ltb g (length es - 1)) (lt (at es g) x && (lt x (at es (g + 1)) && lt x (table .last))) c in
-      let q = and-true (lt (at es g) x) (lt x (at es (g + 1)) && lt x (table .last)) (p .1) in
-      let r = and-true (lt x (at es (g + 1))) (lt x (table .last)) (q .1) in
+  between-bin g c =
+      let p = and-true (ltb g (length es - 1)) (lt (at es g) x && lt x (at es (g + 1))) c in
+      let q = and-true (lt (at es g) x) (lt x (at es (g + 1))) (p .1) in
       let w : g < length es - 1 = ltb-true _ _ (p .0) in
       let a = finite-at es g (u .finite) (omega arith) in
       let b = finite-at es (g + 1) (u .finite) (omega arith) in
-      let m = lt-finite (at es g) x (at es (g + 1)) a b (q .0) (r .0) in
+      let m = lt-finite (at es g) x (at es (g + 1)) a b (q .0) (q .1) in
       let t : T (fits binary64 x) = subst T (sym f) tt in
       let l = key-less (at es g) x (u .held g) t a m (q .0) in
-      let o : outside es x ≡ false = rw (finite-number x m, above-first g w l m, lt-le x (at es (length es - 1)) (ap (lt x) (sym z) ∙ r .1)) in
-      enclosed-bin es u x f g w (le-of-lt l) (key-less x (at es (g + 1)) t (u .held (g + 1)) m b (r .0)) o
+      let o : outside es x ≡ false = rw (finite-number x m, above-first g w l m, below-last g w (q .1) m) in
+      enclosed-bin es u x f g w (le-of-lt l) (key-less x (at es (g + 1)) t (u .held (g + 1)) m b (q .1)) o
 
 module _ (es : List Float) (hints : List ℕ) (table : Table) where
   hinted-found : (x : Float) → Tabled Irregular es table → fits binary64 x ≡ true → hintedBin es hints table x ≡ builtBin Irregular es x
@@ -266,7 +231,7 @@ module _ (es : List Float) (hints : List ℕ) (table : Table) where
   hinted-found x t f =
       let g = raisedHint es hints table x in
       let o : outsideOf table x ≡ outside es x = λ i. isNan x || lt x (t .ends .0 i) || le (t .ends .1 i) x in
-      tested (between es table x g) g _ _ (between-bin es (t .usable) x f table g (t .ends .1)) (go g (outsideOf table x) o)
+      tested (between es x g) g _ _ (between-bin es (t .usable) x f g) (go g (outsideOf table x) o)
     where
       go : (g : ℕ) (b : Bool) → b ≡ outside es x → cond b none (cond (holds es x g) (some g) (locatedBin es x)) ≡ builtBin Irregular es x
       go g true v = none-outside es x (sym v)

@@ -1,4 +1,5 @@
 pub mod Ways
 pub mod Lookup
+pub mod Order
 pub mod Batch
 pub mod Cuts

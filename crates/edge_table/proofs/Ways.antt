@@ -9,7 +9,7 @@ use native.Mathlib.Numerals.{add-one}
 use native.Mathlib.Omega.{arith}
 use lib.Dec.{ltb}
 use lib.ListN.{length, getD, set, List·getD-eq-default}
-use lib.Ieee.{Float, lt, le, isNan, binary64, sub, div, ofBits, toBits}
+use lib.Ieee.{Float, lt, le, isNan, binary64, sub, mul, div, ofBits, toBits}
 use borrow.Author.Tests.{lt-ltb, le-ltb, ltb-true, ltb-false}
 use Rattle.definitions.specs.Lists.{at}
 use Rattle.floats.specs.Order.{orderKey}
@@ -146,11 +146,11 @@ module _ (edges : BuiltEdges) (list : List Float) (table : Table) (x : Float) (o
 
 -- ---- tables
 module _ (edges : BuiltEdges) (list : List Float) (span : Float) where
-  pub table-regular : (e : RegularBinEdges) → edges ≡ Regular e → record { first = e .min; last = e .max; scale = ofBits binary64 0 } ≡ tableOf edges list span
+  pub table-regular : (e : RegularBinEdges) → edges ≡ Regular e → record { first = e .min; last = e .max; scale = ofBits binary64 0; offset = ofBits binary64 0 } ≡ tableOf edges list span
   table-regular e t = rw t
 
   pub table-irregular : (n : ℕ) (a b : Float) → edges ≡ Irregular → n ≡ length list - 1 → a ≡ at list 0 → b ≡ at list n
-      → record { first = a; last = b; scale = div binary64 span (sub binary64 b a) } ≡ tableOf edges list span
+      → record { first = a; last = b; scale = div binary64 span (sub binary64 b a); offset = sub binary64 (ofBits binary64 0x4330_0000_0000_0001) (mul binary64 a (div binary64 span (sub binary64 b a))) } ≡ tableOf edges list span
   table-irregular n a b t e f g = rw (t, f, g, e)
 
 -- ---- value edges

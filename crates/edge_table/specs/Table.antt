@@ -17,16 +17,17 @@ use Rattle.reducer.specs.declared.Reducer.the-variants.{Comp0Mean, ComponentSum
 use Rattle.reducer.specs.Consume.{builtBin}
 use Rattle.edge_table.specs.declared.Table.{Table}
 
--- ends of the edges, and places of hints a unit of the value; span is how many places the edges take
+-- ends of the edges; span is how many places of hints they take, the first value's after 2^52
 abbrev pub tableOf : BuiltEdges → List Float → Float → Table
-tableOf (Regular e) list span = record { first = e .min; last = e .max; scale = ofBits binary64 0 }
+tableOf (Regular e) list span = record { first = e .min; last = e .max; scale = ofBits binary64 0; offset = ofBits binary64 0 }
 tableOf Irregular list span =
-    record { first = at list 0; last = at list (length list - 1); scale = div binary64 span (sub binary64 (at list (length list - 1)) (at list 0)) }
+    let scale = div binary64 span (sub binary64 (at list (length list - 1)) (at list 0)) in
+    record { first = at list 0; last = at list (length list - 1); scale = scale; offset = sub binary64 (ofBits binary64 0x4330_0000_0000_0001) (mul binary64 (at list 0) scale) }
 
 -- ---- hints
--- the value's place: 2^52 added rounds to a whole number, which the low bits then hold
+-- the value's place: with 2^52 in the offset the sum is rounded to a whole number, which the low bits then hold
 unfoldable pub placeOf : Table → Float → ℕ
-placeOf table x = toBits binary64 (add binary64 (mul binary64 (sub binary64 x (table .first)) (table .scale)) (ofBits binary64 0x4330_0000_0000_0000)) % 4096
+placeOf table x = toBits binary64 (add binary64 (mul binary64 x (table .scale)) (table .offset)) % 4096
 
 -- the end of the places up to q in a slice of m
 unfoldable pub endOf : ℕ → ℕ → ℕ
@@ -113,9 +114,9 @@ isSure e x q h =
 unfoldable pub sureBin : RegularBinEdges → Float → ℕ
 sureBin e x = cond (isSure e x (quotient e x) (guessOf (quotient e x))) (guessOf (quotient e x)) (2 ^ 64 - 1)
 
--- strictly between the edges of bin h, and below the last edge
-unfoldable pub between : List Float → Table → Float → ℕ → Bool
-between list table x h = ltb h (length list - 1) && (lt (at list h) x && (lt x (at list (h + 1)) && lt x (table .last)))
+-- strictly between the edges of bin h
+unfoldable pub between : List Float → Float → ℕ → Bool
+between list x h = ltb h (length list - 1) && (lt (at list h) x && lt x (at list (h + 1)))
 
 -- the hint at the value's place; where there is none, what the search by quarters finds
 unfoldable pub hintFor : List Float → List ℕ → Table → Float → ℕ
@@ -123,7 +124,7 @@ hintFor list hints table x = cond (ltb (placeOf table x) (length hints)) (getD h
 
 -- of the guess g, tested by the edges, then by the keys
 unfoldable pub guessedBin : List Float → Table → Float → ℕ → Option ℕ
-guessedBin list table x g = cond (between list table x g) (some g) (cond (outsideOf table x) none (cond (holds list x g) (some g) (locatedBin list x)))
+guessedBin list table x g = cond (between list x g) (some g) (cond (outsideOf table x) none (cond (holds list x g) (some g) (locatedBin list x)))
 
 -- the hint, or the bin after it where its upper edge is not above the value
 unfoldable pub raisedHint : List Float → List ℕ → Table → Float → ℕ
@@ -142,7 +143,7 @@ foundOf edges list hints table x found = cond (eqb (length found) (length x)) (m
 
 -- ---- value edges, which a histogram has
 abbrev pub noTable : Table
-noTable = record { first = ofBits binary64 0; last = ofBits binary64 0; scale = ofBits binary64 0 }
+noTable = record { first = ofBits binary64 0; last = ofBits binary64 0; scale = ofBits binary64 0; offset = ofBits binary64 0 }
 
 abbrev pub valueTableOf : Reducer → List Float → Float → Table
 valueTableOf Comp0Mean list span = noTable

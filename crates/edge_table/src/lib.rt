@@ -14,11 +14,12 @@ ghost use Rattle.reducer.specs.declared.BuiltEdges.the-variants.{Regular};
 ghost use Rattle.reducer.specs.Consume.{builtBin};
 ghost use Rattle.edge_table.specs.Table.{tableOf, placeOf, endOf, spread, binHinted, hintsOf, noHints, hintsFor, outsideOf, edgeBin, tableBin, noTable, valueTableOf, valueHintsFor, numberOr, guessOf, isSure, sureBin, between, holds, stepUp, climb, located, locatedBin, hintFor, hintedBin, foundOf};
 
-// Ends of the edges, and places of hints a unit of the value.
+// Ends of the edges; a value's place of hints is scale times it plus offset.
 pub struct Table {
     pub first: f64,
     pub last: f64,
     pub scale: f64,
+    pub offset: f64,
 }
 
 // ---- tables
@@ -48,15 +49,18 @@ pub fn table_of(edges: BuiltEdges, list: &[f64], span: f64) -> Table
             first: e.min,
             last: e.max,
             scale: 0.0,
+            offset: 0.0,
         },
         BuiltEdges::Irregular => {
             let n = reducer::n_bins(BuiltEdges::Irregular, list.len());
             let first = edge_at(list, 0);
             let last = edge_at(list, n);
+            let scale = span / (last - first);
             Table {
                 first,
                 last,
-                scale: span / (last - first),
+                scale,
+                offset: 4503599627370497.0 - first * scale,
             }
         }
     }
@@ -64,11 +68,11 @@ pub fn table_of(edges: BuiltEdges, list: &[f64], span: f64) -> Table
 
 // ---- hints
 
-// Adding 2^52 rounds to a whole number, which the low bits then hold.
+// With 2^52 in the offset the sum is rounded to a whole number, which the low bits then hold.
 fn place_of(table: Table, value: f64) -> usize
     ensures { λ r. ⌜ (r ≡ placeOf table value) × (r < 4096) ⌝ }
 {
-    let x = (value - table.first) * table.scale + 4503599627370496.0;
+    let x = value * table.scale + table.offset;
     (floats::to_bits(x) % 4096) as usize
 }
 
@@ -223,17 +227,15 @@ pub fn bin_of(edges: BuiltEdges, list: &[f64], table: Table, value: f64) -> BinI
 
 // ---- lookups of many values
 
-fn is_between(list: &[f64], table: Table, x: f64, h: usize) -> bool
-    ensures { λ r. ⌜ r ≡ between (now (list .entry)) table x h ⌝ }
+fn is_between(list: &[f64], x: f64, h: usize) -> bool
+    ensures { λ r. ⌜ r ≡ between (now (list .entry)) x h ⌝ }
 {
     let n = reducer::n_bins(BuiltEdges::Irregular, list.len());
     if h >= n {
         return false;
     }
     if list[h] < x {
-        if x < list[h + 1] {
-            return x < table.last;
-        }
+        return x < list[h + 1];
     }
     false
 }
@@ -264,7 +266,7 @@ fn hinted_bin(list: &[f64], hints: &[u8], table: Table, x: f64) -> usize
 {
     let h = hint_for(list, hints, table, x);
     let g = h + step_up(list, x, h + 1, 1);
-    if is_between(list, table, x, g) {
+    if is_between(list, x, g) {
         return g;
     }
     if is_outside(table, x) {
@@ -281,18 +283,15 @@ fn quick_bin(list: &[f64], hints: &[u8], table: Table, x: f64) -> usize
     ensures { λ r. ⌜ r ≡ numberOr (hintedBin (now (list .entry)) (now (hints .entry)) table x) ⌝ }
 {
     let n = reducer::n_bins(BuiltEdges::Irregular, list.len());
-    let place = (x - table.first) * table.scale + 4503599627370496.0;
+    let place = x * table.scale + table.offset;
     if !floats::is_nan(place) {
         let q = (f64::to_bits(place) % 4096) as usize;
         if q < hints.len() {
             let h = hints[q] as usize;
-            let g = h + step_up(list, x, h + 1, 1);
-            if g < n {
-                if list[g] < x {
-                    if x < list[g + 1] {
-                        if x < table.last {
-                            return g;
-                        }
+            if h < n {
+                if list[h] < x {
+                    if x < list[h + 1] {
+                        return h;
                     }
                 }
             }
@@ -428,6 +427,7 @@ fn no_table() -> Table
         first: 0.0,
         last: 0.0,
         scale: 0.0,
+        offset: 0.0,
     }
 }
 
