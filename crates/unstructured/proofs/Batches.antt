@@ -217,12 +217,12 @@ module _ (setup : Setup) (m : ℕ) (a : points.Point) (g : ℕ → points.Point)
       k ∙ (λ i. pairPlaced setup m (getD valueFound q 0) ((p ∙ ap (λ (y : points.Point). numberedPair setup a y (getD found q 0)) e) i) (h i))
       ∙ ap (λ (n : ℕ). placedTo a g j setup m places found valueFound n z) (sym (add-one q))
 
-  -- the same with the operation written out
-  pub placed-by : (o : PairOperation) (s r : List Float) → setup .op ≡ o
-      → r ≡ placedTo a g j (record { op = o; edges = setup .edges; reducer = setup .reducer; «n_states» = setup .«n_states» }) m places found valueFound (length places) s
+  -- the same with the operation and the kind written out
+  pub placed-by : (o : PairOperation) (k : Reducer) (s r : List Float) → setup .op ≡ o → setup .reducer ≡ k
+      → r ≡ placedTo a g j (record { op = o; edges = setup .edges; reducer = k; «n_states» = setup .«n_states» }) m places found valueFound (length places) s
       → r ≡ placedTo a g j setup m places found valueFound (length places) s
-  placed-by o s r e h =
-      h ∙ sym (λ i. placedTo a g j (record { op = e i; edges = setup .edges; reducer = setup .reducer; «n_states» = setup .«n_states» }) m places found valueFound (length places) s)
+  placed-by o k s r e f h =
+      h ∙ sym (λ i. placedTo a g j (record { op = e i; edges = setup .edges; reducer = f i; «n_states» = setup .«n_states» }) m places found valueFound (length places) s)
 
   module _ (f : ℕ → List Float → List Float) (h : (q : ℕ) → q < length places → (t : List Float)
       → pairPlaced setup m (getD valueFound q 0) (numberedPair setup a (g (j + getD places q 0)) (getD found q 0)) t ≡ f (getD places q 0) t) where

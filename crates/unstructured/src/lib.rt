@@ -277,7 +277,7 @@ fn add_pairs(
     }
 }
 
-// The same; the operation is matched once for all of them.
+// The same; the operation is matched once for all of them, and so is the mean that is asked for most.
 fn add_listed(
     setup: Setup,
     value_len: usize,
@@ -306,7 +306,10 @@ fn add_listed(
     match op {
         PairOperation::ElementwiseMultiply => {
             let op = PairOperation::ElementwiseMultiply;
-            add_pairs(
+            match reducer {
+                Reducer::ComponentSumMean => {
+                    let reducer = Reducer::ComponentSumMean;
+                    add_pairs(
                 Setup {
                     op,
                     edges,
@@ -326,6 +329,28 @@ fn add_listed(
                 value_found,
                 scratch,
             )
+                }
+                _ => add_pairs(
+                Setup {
+                    op,
+                    edges,
+                    reducer,
+                    n_states,
+                },
+                value_len,
+                a,
+                positions,
+                values,
+                weights,
+                stride,
+                j,
+                m,
+                places,
+                found,
+                value_found,
+                scratch,
+            ),
+            }
         }
         PairOperation::ElementwiseSub => {
             let op = PairOperation::ElementwiseSub;
