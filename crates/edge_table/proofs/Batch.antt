@@ -25,9 +25,9 @@ use Rattle.reducer.specs.declared.BuiltEdges.{BuiltEdges}
 use Rattle.reducer.specs.declared.BuiltEdges.the-variants.{Regular, Irregular}
 use Rattle.reducer.specs.Consume.{builtBin}
 use Rattle.edge_table.specs.declared.Table.{Table}
-use Rattle.edge_table.specs.Table.{placeOf, bit, numberOr, between, outsideOf, holds, stepUp, climb, located, locatedBin, hintFor, guessedBin, raisedHint, hintedBin, batchBin, foundOf}
+use Rattle.edge_table.specs.Table.{placeOf, bit, numberOr, between, outsideOf, holds, stepUp, climb, located, locatedBin, hintFor, guessedBin, nearHint, hintedBin, batchBin, foundOf}
 use Rattle.edge_table.specs.Tabled.{Searchable, Tabled}
-use Rattle.edge_table.proofs.Order.{lt-self, lt-finite, lt-le, le-lt}
+use Rattle.edge_table.proofs.Order.{lt-self, lt-finite, lt-not, lt-le, le-lt}
 use Rattle.edge_table.proofs.Lookup.{outside, none-outside, and-true, enclosed-bin, tested, held-bin, located-found}
 
 -- ---- the tests of a bin
@@ -104,40 +104,45 @@ module _ (list : List Float) (hints : List ℕ) (table : Table) (x : Float) (p :
   unfolding hintFor
   hint-none r h q = rw (← e, le-ltb p (length hints) h) q
 
--- h is the hint; w, s, t and u the answers of `step_up`, `is_between`, `is_outside` and `is_held`
-module _ (list : List Float) (hints : List ℕ) (table : Table) (x : Float) (h w : ℕ) (e : h ≡ hintFor list hints table x) (r : w ≡ stepUp list x (h + 1) 1) where
-  raised-is : h + w ≡ raisedHint list hints table x
-  unfolding raisedHint
-  raised-is = rw (← e, ← r)
+-- t is the edge that was read, w the answer of `step_up`
+module _ (list : List Float) (x t : Float) (h : ℕ) (e : t ≡ at list h) where
+  pub near-below : (g : ℕ) → lt x t ≡ true → g ≡ h - 1 → g ≡ nearHint list x h
+  unfolding nearHint
+  near-below g l z = rw (← e, l) z
 
-  module _ (s : Bool) (q : s ≡ between list x (h + w)) where
-    pub hinted-right : s ≡ true → h + w ≡ numberOr (hintedBin list hints table x)
+  pub near-above : (w : ℕ) → lt x t ≡ false → w ≡ stepUp list x (h + 1) 1 → h + w ≡ nearHint list x h
+  unfolding nearHint
+  near-above w l r = rw (← e, l, r)
+
+-- h is the hint, g the answer of `near_hint`; s, t and u of `is_between`, `is_outside` and `is_held`
+module _ (list : List Float) (hints : List ℕ) (table : Table) (x : Float) (h g : ℕ) (e : h ≡ hintFor list hints table x) (r : g ≡ nearHint list x h) (s : Bool) (q : s ≡ between list x g) where
+  pub hinted-right : s ≡ true → g ≡ numberOr (hintedBin list hints table x)
+  unfolding hintedBin guessedBin
+  hinted-right a = rw (← e, ← r, ← q, a)
+
+  module _ (a : s ≡ false) (t : Bool) (o : t ≡ outsideOf table x) where
+    pub hinted-none : t ≡ true → 4096 ≡ numberOr (hintedBin list hints table x)
     unfolding hintedBin guessedBin
-    hinted-right a = rw (← raised-is, ← q, a)
+    hinted-none b = rw (← e, ← r, ← q, a, ← o, b)
 
-    module _ (a : s ≡ false) (t : Bool) (o : t ≡ outsideOf table x) where
-      pub hinted-none : t ≡ true → 4096 ≡ numberOr (hintedBin list hints table x)
+    module _ (b : t ≡ false) (u : Bool) (p : u ≡ holds list x g) where
+      pub hinted-held : u ≡ true → g ≡ numberOr (hintedBin list hints table x)
       unfolding hintedBin guessedBin
-      hinted-none b = rw (← raised-is, ← q, a, ← o, b)
+      hinted-held c = rw (← e, ← r, ← q, a, ← o, b, ← p, c)
 
-      module _ (b : t ≡ false) (u : Bool) (p : u ≡ holds list x (h + w)) where
-        pub hinted-held : u ≡ true → h + w ≡ numberOr (hintedBin list hints table x)
-        unfolding hintedBin guessedBin
-        hinted-held c = rw (← raised-is, ← q, a, ← o, b, ← p, c)
+      pub hinted-search : (v : Option ℕ) (n : ℕ) → u ≡ false → v ≡ locatedBin list x → n ≡ numberOr v → n ≡ numberOr (hintedBin list hints table x)
+      unfolding hintedBin guessedBin
+      hinted-search v n c d z = rw (← e, ← r, ← q, a, ← o, b, ← p, c, ← d) z
 
-        pub hinted-search : (v : Option ℕ) (n : ℕ) → u ≡ false → v ≡ locatedBin list x → n ≡ numberOr v → n ≡ numberOr (hintedBin list hints table x)
-        unfolding hintedBin guessedBin
-        hinted-search v n c d z = rw (← raised-is, ← q, a, ← o, b, ← p, c, ← d) z
-
--- p is the place, n how many bins there are; below its upper edge the hint is not raised
+-- p is the place, n how many bins there are; between its edges a value points to no other bin
 pub hinted-quick : (list : List Float) (hints : List ℕ) (table : Table) (x : Float) (p n : ℕ) → p ≡ placeOf table x → p < length hints → n ≡ length list - 1 → getD hints p 0 < n
     → lt (at list (getD hints p 0)) x ≡ true → lt x (at list (getD hints p 0 + 1)) ≡ true → getD hints p 0 ≡ numberOr (hintedBin list hints table x)
-unfolding stepUp
+unfolding stepUp nearHint
 hinted-quick list hints table x p n e k f l a b =
     let h = getD hints p 0 in
-    let r : 0 ≡ 1 * bit (le (at list (h + 1)) x) = rw (lt-le x (at list (h + 1)) b) in
-    let z : h + 0 ≡ h = omega arith in
-    sym z ∙ hinted-right list hints table x h 0 (hint-is list hints table x p e k) r true (sym b ∙ between-is list x h n f l a ∙ ap (between list x) (sym z)) refl
+    let z : h ≡ h + 0 = omega arith in
+    let r : h ≡ nearHint list x h = rw (lt-not (at list h) x a, lt-le x (at list (h + 1)) b) z in
+    hinted-right list hints table x h h (hint-is list hints table x p e k) r true (sym b ∙ between-is list x h n f l a) refl
 
 -- ---- the loops: f of the first q values is stored
 module _ {B : Type 0} (f : Float → B) (x : List Float) (l : List B) (q : ℕ) (e : length l ≡ length x) (inv : map f x ≡ take q l ++ map f (drop q x)) where
@@ -229,7 +234,7 @@ module _ (es : List Float) (hints : List ℕ) (table : Table) where
   hinted-found : (x : Float) → Tabled Irregular es table → fits binary64 x ≡ true → hintedBin es hints table x ≡ builtBin Irregular es x
   unfolding hintedBin guessedBin outsideOf
   hinted-found x t f =
-      let g = raisedHint es hints table x in
+      let g = nearHint es x (hintFor es hints table x) in
       let o : outsideOf table x ≡ outside es x = λ i. isNan x || lt x (t .ends .0 i) || le (t .ends .1 i) x in
       tested (between es x g) g _ _ (between-bin es (t .usable) x f g) (go g (outsideOf table x) o)
     where

@@ -58,6 +58,14 @@ lt-le (fin s m e) (inf true) h = absurd (true≢false (sym h))
 lt-le (fin s m e) (inf false) h = refl
 lt-le (fin s m e) (fin t n d) h = below-level s t (m * up e * down d) (n * up d * down e) h
 
+pub lt-not : (x y : Float) → lt x y ≡ true → lt y x ≡ false
+unfolding le
+lt-not x y h = first (lt y x) (eq y x) (lt-le x y h)
+  where
+    first : (a b : Bool) → (a || b) ≡ false → a ≡ false
+    first false b e = refl
+    first true b e = e
+
 -- ---- a number that is not above x is below what x is below
 factor-pos : (k y : ℕ) → 0 < k * y → 0 < k
 factor-pos k y h = lt-of-mul-lt-mul-right y (subst (λ (n : ℕ). n < k * y) (sym (zero-mul y)) h)

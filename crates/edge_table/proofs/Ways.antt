@@ -21,11 +21,11 @@ use Rattle.reducer.specs.declared.Reducer.{Reducer}
 use Rattle.reducer.specs.declared.Reducer.the-variants.{ComponentSumHistogram}
 use Rattle.reducer.specs.Consume.{builtBin}
 use Rattle.edge_table.specs.declared.Table.{Table}
-use Rattle.edge_table.specs.Table.{tableOf, placeOf, endOf, spread, binHinted, hintsOf, noHints, hintsFor, bit, locatedBin, outsideOf, edgeBin, tableBin, valueTableOf, valueHintsFor}
+use Rattle.edge_table.specs.Table.{tableOf, edgePlace, endOf, spread, binHinted, hintsOf, noHints, hintsFor, bit, locatedBin, outsideOf, edgeBin, tableBin, valueTableOf, valueHintsFor}
 
 -- ---- hints
 module _ (q m : ℕ) where
-  pub end-within : q < m → q + 1 ≡ endOf q m
+  pub end-within : q < m → q ≡ endOf q m
   unfolding endOf
   end-within h = rw (lt-ltb q m h)
 
@@ -53,8 +53,8 @@ module _ (p b : ℕ) (hints : List ℕ) where
       inv ∙ ap (λ (n : ℕ). spread p b n hints) z
 
 -- p, q and e are the calls' answers
-pub hinted-is : (table : Table) (list : List Float) (b p q e : ℕ) (hints r : List ℕ) → p ≡ placeOf table (at list b) → q ≡ placeOf table (at list (b + 1)) → e ≡ endOf q (length hints)
-    → r ≡ spread (p + 1) (b % 256) (e - (p + 1)) hints → r ≡ binHinted table list b hints
+pub hinted-is : (table : Table) (list : List Float) (b p q e : ℕ) (hints r : List ℕ) → p ≡ edgePlace table (at list b) → q ≡ edgePlace table (at list (b + 1)) → e ≡ endOf q (length hints)
+    → r ≡ spread p (b % 256) (e - p) hints → r ≡ binHinted table list b hints
 unfolding binHinted
 hinted-is table list b p q e hints r x y z f = rw (← x, ← y, ← z) f
 

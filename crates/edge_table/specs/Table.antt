@@ -29,19 +29,23 @@ tableOf Irregular list span =
 unfoldable pub placeOf : Table → Float → ℕ
 placeOf table x = toBits binary64 (add binary64 (mul binary64 x (table .scale)) (table .offset)) % 4096
 
--- the end of the places up to q in a slice of m
+-- an edge's: half a place on, so the first whose middle is not below it
+unfoldable pub edgePlace : Table → Float → ℕ
+edgePlace table x = toBits binary64 (add binary64 (add binary64 (mul binary64 x (table .scale)) (ofBits binary64 0x3fe0_0000_0000_0000)) (table .offset)) % 4096
+
+-- the end of the places before q in a slice of m
 unfoldable pub endOf : ℕ → ℕ → ℕ
-endOf q m = cond (ltb q m) (q + 1) m
+endOf q m = cond (ltb q m) q m
 
 -- b at n places from p on
 unfoldable pub spread : ℕ → ℕ → ℕ → List ℕ → List ℕ
 spread p b zero hints = hints
 spread p b (suc i) hints = set (spread p b i hints) (p + i) b
 
--- bin b at the places after its lower edge's up to its upper edge's
+-- bin b at the places from its lower edge's up to its upper edge's
 unfoldable pub binHinted : Table → List Float → ℕ → List ℕ → List ℕ
 binHinted table list b hints =
-    spread (placeOf table (at list b) + 1) (b % 256) (endOf (placeOf table (at list (b + 1))) (length hints) - (placeOf table (at list b) + 1)) hints
+    spread (edgePlace table (at list b)) (b % 256) (endOf (edgePlace table (at list (b + 1))) (length hints) - edgePlace table (at list b)) hints
 
 -- the first n bins
 unfoldable pub hintsOf : Table → List Float → ℕ → List ℕ → List ℕ
@@ -126,12 +130,12 @@ hintFor list hints table x = cond (ltb (placeOf table x) (length hints)) (getD h
 unfoldable pub guessedBin : List Float → Table → Float → ℕ → Option ℕ
 guessedBin list table x g = cond (between list x g) (some g) (cond (outsideOf table x) none (cond (holds list x g) (some g) (locatedBin list x)))
 
--- the hint, or the bin after it where its upper edge is not above the value
-unfoldable pub raisedHint : List Float → List ℕ → Table → Float → ℕ
-raisedHint list hints table x = hintFor list hints table x + stepUp list x (hintFor list hints table x + 1) 1
+-- h, or the bin beside it to which the value points
+unfoldable pub nearHint : List Float → Float → ℕ → ℕ
+nearHint list x h = cond (lt x (at list h)) (h - 1) (h + stepUp list x (h + 1) 1)
 
 unfoldable pub hintedBin : List Float → List ℕ → Table → Float → Option ℕ
-hintedBin list hints table x = guessedBin list table x (raisedHint list hints table x)
+hintedBin list hints table x = guessedBin list table x (nearHint list x (hintFor list hints table x))
 
 unfoldable pub batchBin : BuiltEdges → List Float → List ℕ → Table → Float → Option ℕ
 batchBin (Regular e) list hints table x = builtBin (Regular e) list x

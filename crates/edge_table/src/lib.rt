@@ -12,7 +12,7 @@ ghost use Rattle.floats.specs.Order.{orderKey};
 ghost use Rattle.bins.specs.Answers.{indexOf};
 ghost use Rattle.reducer.specs.declared.BuiltEdges.the-variants.{Regular};
 ghost use Rattle.reducer.specs.Consume.{builtBin};
-ghost use Rattle.edge_table.specs.Table.{tableOf, placeOf, endOf, spread, binHinted, hintsOf, noHints, hintsFor, outsideOf, edgeBin, tableBin, noTable, valueTableOf, valueHintsFor, numberOr, guessOf, isSure, sureBin, between, holds, stepUp, climb, located, locatedBin, hintFor, hintedBin, foundOf};
+ghost use Rattle.edge_table.specs.Table.{tableOf, placeOf, edgePlace, endOf, spread, binHinted, hintsOf, noHints, hintsFor, outsideOf, edgeBin, tableBin, noTable, valueTableOf, valueHintsFor, numberOr, guessOf, isSure, sureBin, between, holds, stepUp, climb, located, locatedBin, hintFor, nearHint, hintedBin, foundOf};
 
 // Ends of the edges; a value's place of hints is scale times it plus offset.
 pub struct Table {
@@ -76,10 +76,18 @@ fn place_of(table: Table, value: f64) -> usize
     (floats::to_bits(x) % 4096) as usize
 }
 
+// An edge's place: the first whose middle is not below it.
+fn edge_place(table: Table, edge: f64) -> usize
+    ensures { λ r. ⌜ (r ≡ edgePlace table edge) × (r < 4096) ⌝ }
+{
+    let x = (edge * table.scale + 0.5) + table.offset;
+    (floats::to_bits(x) % 4096) as usize
+}
+
 fn end_of(q: usize, len: usize) -> usize
     ensures { λ r. ⌜ (r ≡ endOf q len) × (r ≤ len) ⌝ }
 {
-    if q < len { q + 1 } else { len }
+    if q < len { q } else { len }
 }
 
 // b at the places from p up to the end.
@@ -94,18 +102,17 @@ fn spread_hint(p: usize, b: u8, end: usize, hints: &mut [u8])
     }
 }
 
-// Bin b at the places after its lower edge's up to its upper edge's.
+// Bin b at the places from its lower edge's up to its upper edge's: the bin of a place's middle.
 fn hint_bin(list: &[f64], table: Table, b: usize, hints: &mut [u8])
     requires { ⌜ b + 1 < length (now list) ⌝ }
     ensures { λ _. ⌜ now (hints .exit) ≡ binHinted table (now (list .entry)) b (now (hints .entry)) ⌝ }
 {
-    let p = place_of(table, list[b]) + 1;
-    let q = place_of(table, list[b + 1]);
+    let p = edge_place(table, list[b]);
+    let q = edge_place(table, list[b + 1]);
     let end = end_of(q, hints.len());
     spread_hint(p, (b % 256) as u8, end, hints);
 }
 
-// The hint at a place is the bin of the place's lowest value; the first place stays.
 fn fill_hints(list: &[f64], table: Table, hints: &mut [u8])
     ensures { λ _. ⌜ now (hints .exit) ≡ hintsOf table (now (list .entry)) (length (now (list .entry)) - 1) (now (hints .entry)) ⌝ }
 {
@@ -260,12 +267,24 @@ fn hint_for(list: &[f64], hints: &[u8], table: Table, value: f64) -> usize
     locate(list, value)
 }
 
-// The hint's bin or, where its upper edge is not above the value, the one after it, if that holds the value; else a search.
+// h, or the bin beside it to which the value points.
+fn near_hint(list: &[f64], x: f64, h: usize) -> usize
+    requires { ⌜ h ≤ 255 ⌝ }
+    ensures { λ r. ⌜ (r ≡ nearHint (now (list .entry)) x h) × (r ≤ 256) ⌝ }
+{
+    let edge = edge_at(list, h);
+    if x < edge {
+        return if h > 0 { h - 1 } else { 0 };
+    }
+    h + step_up(list, x, h + 1, 1)
+}
+
+// The hint's bin or one beside it, if that holds the value; else a search.
 fn hinted_bin(list: &[f64], hints: &[u8], table: Table, x: f64) -> usize
     ensures { λ r. ⌜ r ≡ numberOr (hintedBin (now (list .entry)) (now (hints .entry)) table x) ⌝ }
 {
     let h = hint_for(list, hints, table, x);
-    let g = h + step_up(list, x, h + 1, 1);
+    let g = near_hint(list, x, h);
     if is_between(list, x, g) {
         return g;
     }

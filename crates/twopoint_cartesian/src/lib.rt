@@ -1042,7 +1042,7 @@ fn fill_tabled(
     let edges = setup.edges;
     let kind = setup.reducer;
     let distances = edge_table::table_of(edges, list, 0.0);
-    let value_table = edge_table::value_table_of(kind, value_edges, 4094.0);
+    let value_table = edge_table::value_table_of(kind, value_edges, 4093.0);
     let tables = Tables {
         distances,
         values: value_table,

@@ -310,46 +310,46 @@ fn add_listed(
                 Reducer::ComponentSumMean => {
                     let reducer = Reducer::ComponentSumMean;
                     add_pairs(
-                Setup {
-                    op,
-                    edges,
-                    reducer,
-                    n_states,
-                },
-                value_len,
-                a,
-                positions,
-                values,
-                weights,
-                stride,
-                j,
-                m,
-                places,
-                found,
-                value_found,
-                scratch,
-            )
+                        Setup {
+                            op,
+                            edges,
+                            reducer,
+                            n_states,
+                        },
+                        value_len,
+                        a,
+                        positions,
+                        values,
+                        weights,
+                        stride,
+                        j,
+                        m,
+                        places,
+                        found,
+                        value_found,
+                        scratch,
+                    )
                 }
                 _ => add_pairs(
-                Setup {
-                    op,
-                    edges,
-                    reducer,
-                    n_states,
-                },
-                value_len,
-                a,
-                positions,
-                values,
-                weights,
-                stride,
-                j,
-                m,
-                places,
-                found,
-                value_found,
-                scratch,
-            ),
+                    Setup {
+                        op,
+                        edges,
+                        reducer,
+                        n_states,
+                    },
+                    value_len,
+                    a,
+                    positions,
+                    values,
+                    weights,
+                    stride,
+                    j,
+                    m,
+                    places,
+                    found,
+                    value_found,
+                    scratch,
+                ),
             }
         }
         PairOperation::ElementwiseSub => {
@@ -728,9 +728,9 @@ fn fill_batches(
     }
 }
 
-// How many places of hints pay for n second points: the edges' range takes two less than 512, or than all.
+// How many places of hints pay for n second points: the edges' range takes somewhat less than 512, or than all.
 fn hint_span(n: usize) -> f64 {
-    if n < 160 { 510.0 } else { 4094.0 }
+    if n < 160 { 510.0 } else { 4093.0 }
 }
 
 // ---- few second points: no hints, no room
