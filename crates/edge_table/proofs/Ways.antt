@@ -21,7 +21,7 @@ use Rattle.reducer.specs.declared.Reducer.{Reducer}
 use Rattle.reducer.specs.declared.Reducer.the-variants.{ComponentSumHistogram}
 use Rattle.reducer.specs.Consume.{builtBin}
 use Rattle.edge_table.specs.declared.Table.{Table}
-use Rattle.edge_table.specs.Table.{tableOf, edgePlace, endOf, spread, binHinted, hintsOf, noHints, hintsFor, bit, locatedBin, outsideOf, edgeBin, tableBin, valueTableOf, valueHintsFor}
+use Rattle.edge_table.specs.Table.{tableOf, edgePlace, endOf, spread, binHinted, hintsOf, hintsFor, bit, locatedBin, outsideOf, edgeBin, tableBin, valueTableOf, valueHintsFor}
 
 -- ---- hints
 module _ (q m : ℕ) where
@@ -72,8 +72,8 @@ module _ (table : Table) (list : List Float) (hints : List ℕ) where
       let z : b ≡ length list - 1 = omega arith in
       inv ∙ ap (λ (a : ℕ). hintsOf table list a hints) z
 
-  pub hints-irregular : (edges : BuiltEdges) (r : List ℕ) → edges ≡ Irregular → hints ≡ noHints → r ≡ hintsOf table list (length list - 1) hints → r ≡ hintsFor edges list table
-  hints-irregular edges r t h k = rw (t, ← h) k
+  pub hints-irregular : (edges : BuiltEdges) (r : List ℕ) → edges ≡ Irregular → r ≡ hintsOf table list (length list - 1) hints → r ≡ hintsFor edges table list hints
+  hints-irregular edges r t k = rw t k
 
 -- ---- lookups
 -- what the sign takes from a key, of the bits b
@@ -158,5 +158,5 @@ module _ (r : Reducer) (list : List Float) where
   pub table-histogram : (span : Float) (e : BuiltEdges) (t : Table) → r ≡ ComponentSumHistogram e → t ≡ tableOf e list span → t ≡ valueTableOf r list span
   table-histogram span e t h k = rw h k
 
-  pub hints-histogram : (table : Table) (e : BuiltEdges) (l : List ℕ) → r ≡ ComponentSumHistogram e → l ≡ hintsFor e list table → l ≡ valueHintsFor r list table
-  hints-histogram table e l h k = rw h k
+  pub hints-histogram : (table : Table) (e : BuiltEdges) (hints l : List ℕ) → r ≡ ComponentSumHistogram e → l ≡ hintsFor e table list hints → l ≡ valueHintsFor r table list hints
+  hints-histogram table e hints l h k = rw h k

@@ -4,7 +4,7 @@ use mathlib.Core.List.{List, map}
 use mathlib.Core.Bool.{Bool, true, false, cond, not, _&&_, _||_}
 use Prim.Native.Nat.{ℕ, zero, suc, _+_, _-_, _*_, _/_, _%_, _^_}
 use lib.Dec.{leb, ltb, eqb}
-use lib.ListN.{length, getD, set, replicate}
+use lib.ListN.{length, getD, set}
 use lib.IntN.{pos}
 use lib.Ieee.{Float, binary64, add, sub, mul, div, lt, le, isNan, ofInt, ofBits, toBits}
 use Rattle.definitions.specs.Lists.{at}
@@ -52,13 +52,10 @@ unfoldable pub hintsOf : Table → List Float → ℕ → List ℕ → List ℕ
 hintsOf table list zero hints = hints
 hintsOf table list (suc b) hints = binHinted table list b (hintsOf table list b hints)
 
-unfoldable pub noHints : List ℕ
-noHints = replicate 4096 0
-
 -- regular edges are found without hints
-abbrev pub hintsFor : BuiltEdges → List Float → Table → List ℕ
-hintsFor (Regular e) list table = noHints
-hintsFor Irregular list table = hintsOf table list (length list - 1) noHints
+abbrev pub hintsFor : BuiltEdges → Table → List Float → List ℕ → List ℕ
+hintsFor (Regular e) table list hints = hints
+hintsFor Irregular table list hints = hintsOf table list (length list - 1) hints
 
 -- ---- lookups
 abbrev pub bit : Bool → ℕ
@@ -154,7 +151,7 @@ valueTableOf Comp0Mean list span = noTable
 valueTableOf ComponentSumMean list span = noTable
 valueTableOf (ComponentSumHistogram e) list span = tableOf e list span
 
-abbrev pub valueHintsFor : Reducer → List Float → Table → List ℕ
-valueHintsFor Comp0Mean list table = noHints
-valueHintsFor ComponentSumMean list table = noHints
-valueHintsFor (ComponentSumHistogram e) list table = hintsFor e list table
+abbrev pub valueHintsFor : Reducer → Table → List Float → List ℕ → List ℕ
+valueHintsFor Comp0Mean table list hints = hints
+valueHintsFor ComponentSumMean table list hints = hints
+valueHintsFor (ComponentSumHistogram e) table list hints = hintsFor e table list hints

@@ -12,7 +12,7 @@ ghost use Rattle.floats.specs.Order.{orderKey};
 ghost use Rattle.bins.specs.Answers.{indexOf};
 ghost use Rattle.reducer.specs.declared.BuiltEdges.the-variants.{Regular};
 ghost use Rattle.reducer.specs.Consume.{builtBin};
-ghost use Rattle.edge_table.specs.Table.{tableOf, placeOf, edgePlace, endOf, spread, binHinted, hintsOf, noHints, hintsFor, outsideOf, edgeBin, tableBin, noTable, valueTableOf, valueHintsFor, numberOr, guessOf, isSure, sureBin, between, holds, stepUp, climb, located, locatedBin, hintFor, nearHint, hintedBin, foundOf};
+ghost use Rattle.edge_table.specs.Table.{tableOf, placeOf, edgePlace, endOf, spread, binHinted, hintsOf, hintsFor, outsideOf, edgeBin, tableBin, noTable, valueTableOf, valueHintsFor, numberOr, guessOf, isSure, sureBin, between, holds, stepUp, climb, located, locatedBin, hintFor, nearHint, hintedBin, foundOf};
 
 // Ends of the edges; a value's place of hints is scale times it plus offset.
 pub struct Table {
@@ -113,7 +113,7 @@ fn hint_bin(list: &[f64], table: Table, b: usize, hints: &mut [u8])
     spread_hint(p, (b % 256) as u8, end, hints);
 }
 
-fn fill_hints(list: &[f64], table: Table, hints: &mut [u8])
+fn hint_bins(list: &[f64], table: Table, hints: &mut [u8])
     ensures { λ _. ⌜ now (hints .exit) ≡ hintsOf table (now (list .entry)) (length (now (list .entry)) - 1) (now (hints .entry)) ⌝ }
 {
     let n = reducer::n_bins(BuiltEdges::Irregular, list.len());
@@ -125,15 +125,13 @@ fn fill_hints(list: &[f64], table: Table, hints: &mut [u8])
 }
 
 // Regular edges are found without hints.
-pub fn hints_of(edges: BuiltEdges, list: &[f64], table: Table) -> [u8; 4096]
-    ensures { λ r. ⌜ r ≡ hintsFor edges (now (list .entry)) table ⌝ }
+pub fn fill_hints(edges: BuiltEdges, list: &[f64], table: Table, hints: &mut [u8])
+    ensures { λ _. ⌜ now (hints .exit) ≡ hintsFor edges table (now (list .entry)) (now (hints .entry)) ⌝ }
 {
-    let mut hints = no_hints();
     match edges {
         BuiltEdges::Regular(_) => {}
-        BuiltEdges::Irregular => fill_hints(list, table, &mut hints),
+        BuiltEdges::Irregular => hint_bins(list, table, hints),
     }
-    hints
 }
 
 // ---- lookups
@@ -429,13 +427,13 @@ pub fn value_table_of(reducer: Reducer, list: &[f64], span: f64) -> Table
     }
 }
 
-pub fn value_hints_of(reducer: Reducer, list: &[f64], table: Table) -> [u8; 4096]
-    ensures { λ r. ⌜ r ≡ valueHintsFor reducer (now (list .entry)) table ⌝ }
+pub fn fill_value_hints(reducer: Reducer, list: &[f64], table: Table, hints: &mut [u8])
+    ensures { λ _. ⌜ now (hints .exit) ≡ valueHintsFor reducer table (now (list .entry)) (now (hints .entry)) ⌝ }
 {
     match reducer {
-        Reducer::Comp0Mean => no_hints(),
-        Reducer::ComponentSumMean => no_hints(),
-        Reducer::ComponentSumHistogram(e) => hints_of(e, list, table),
+        Reducer::Comp0Mean => {}
+        Reducer::ComponentSumMean => {}
+        Reducer::ComponentSumHistogram(e) => fill_hints(e, list, table, hints),
     }
 }
 
@@ -448,10 +446,4 @@ fn no_table() -> Table
         scale: 0.0,
         offset: 0.0,
     }
-}
-
-fn no_hints() -> [u8; 4096]
-    ensures { λ r. ⌜ r ≡ noHints ⌝ }
-{
-    [0u8; 4096]
 }

@@ -1047,7 +1047,8 @@ fn fill_tabled(
         distances,
         values: value_table,
     };
-    let hints = edge_table::value_hints_of(kind, value_edges, value_table);
+    let mut hints = [0u8; 4096];
+    edge_table::fill_value_hints(kind, value_edges, value_table, &mut hints);
     let mut values = [0.0; 64];
     let mut found = [0usize; 64];
     let mut state = zero_state();

@@ -893,8 +893,10 @@ fn fill_many(
     let span = hint_span(b_n);
     let edges = edge_table::table_of(built, list, span);
     let values = edge_table::value_table_of(kind, value_edges, span);
-    let hints = edge_table::hints_of(built, list, edges);
-    let value_hints = edge_table::value_hints_of(kind, value_edges, values);
+    let mut hints = [0u8; 4096];
+    edge_table::fill_hints(built, list, edges, &mut hints);
+    let mut value_hints = [0u8; 4096];
+    edge_table::fill_value_hints(kind, value_edges, values, &mut value_hints);
     let mut d = [0.0f64; 256];
     let mut places = [0usize; 256];
     let mut found = [0usize; 256];
