@@ -1007,6 +1007,25 @@ fn fill(
     }
 }
 
+// Edges that are found have hints.
+fn hint_room(edges: usize) -> usize
+    ensures { λ r. ⌜ r ≤ 4096 ⌝ }
+{
+    if edges < 2 {
+        return 0;
+    }
+    4096
+}
+
+// They stand in the first `room` places.
+fn hints_of(value_edges: &[f64], table: Table, room: usize) -> [u8; 4096]
+    requires { ⌜ room ≤ 4096 ⌝ }
+{
+    let mut hints = [0u8; 4096];
+    edge_table::fill_hints(value_edges, table, &mut hints[..room]);
+    hints
+}
+
 fn zero_state() -> [f64; 256]
     ensures { λ r. ⌜ r ≡ zeroState ⌝ }
 {
@@ -1042,13 +1061,13 @@ fn fill_tabled(
     let edges = setup.edges;
     let kind = setup.reducer;
     let distances = edge_table::table_of(edges, list, 0.0);
-    let value_table = edge_table::value_table_of(kind, value_edges, 4093.0);
+    let value_table = edge_table::value_table_of(kind, value_edges, 4094.0);
     let tables = Tables {
         distances,
         values: value_table,
     };
-    let mut hints = [0u8; 4096];
-    edge_table::fill_value_hints(kind, value_edges, value_table, &mut hints);
+    let hint_room = hint_room(value_edges.len());
+    let hints = hints_of(value_edges, value_table, hint_room);
     let mut values = [0.0; 64];
     let mut found = [0usize; 64];
     let mut state = zero_state();
@@ -1058,7 +1077,7 @@ fn fill_tabled(
         tables,
         list,
         value_edges,
-        &hints,
+        &hints[..hint_room],
         width,
         a0,
         a1,
