@@ -22,10 +22,9 @@ use Rattle.reducer.specs.Consume as consume
 use Rattle.reducer.specs.Consume.{reducerSize, consumed}
 use Rattle.reducer.proofs.Placewise.{room}
 use Rattle.idx_3d_offset.specs.declared.Axes.{Axes}
-use Rattle.idx_3d_offset.specs.Offsets.{Reach}
 use Rattle.twopoint_cartesian.specs.declared.Setup.{Setup}
 use Rattle.twopoint_cartesian.specs.declared.Mean.{Mean}
-use Rattle.twopoint_cartesian.specs.Cells.{Fields, datumIn, cellsAdded, rowAdded, planeAdded, blockAdded, scalarOf, isMean, meanAdded, noMean, meanState, cellsInMean, rowInMean, planeInMean, blockInMean, fieldsIn, firstA, firstB, overlapOf, offsetMean, offsetCells, fresh, Ready, Room, stateMerged, mergedIn}
+use Rattle.twopoint_cartesian.specs.Cells.{Fields, BlockFits, datumIn, cellsAdded, rowAdded, planeAdded, blockAdded, scalarOf, isMean, meanAdded, noMean, meanState, cellsInMean, rowInMean, planeInMean, blockInMean, fieldsIn, firstA, firstB, overlapOf, offsetMean, offsetCells, fresh, Ready, Room, stateMerged, mergedIn}
 use Rattle.twopoint_cartesian.proofs.Loops.{left-turn, left-done}
 use Rattle.twopoint_cartesian.proofs.Cells.{offset-cells}
 
@@ -155,9 +154,9 @@ unfolding offsetMean
 mean-done-cells setup a b d i j n q ei ej en e = e ∙ λ t. blockInMean setup (fieldsIn a) (fieldsIn b) (ei t) (ej t) (a .sy) (b .sy) (a .sz) (b .sz) (en t .x) (en t .y) 0 (en t .z) noMean
 
 -- in auto the second block is the first
-module _ (auto : Bool) (a b : CartesianBlock) (t : auto ≡ true) (same : auto ≡ true → a ≡ b) (d : blocks.Idx3DOffset) where
-  pub auto-mean : (setup : Setup) (q : Mean) → q ≡ offsetMean setup a a d → q ≡ offsetMean setup a b d
-  auto-mean setup q e = e ∙ ap (λ (c : CartesianBlock). offsetMean setup a c d) (same t)
+module _ (auto : Bool) (a b : CartesianBlock) (u : auto ≡ true) (same : auto ≡ true → a ≡ b) (j s t n k l : ℕ) where
+  pub auto-fits : BlockFits (fieldsIn b) j s t n k l → BlockFits (fieldsIn a) j s t n k l
+  auto-fits h = subst (λ (c : CartesianBlock). BlockFits (fieldsIn c) j s t n k l) (sym (same u)) h
 
-  pub auto-reached : Reach (record { z = a .nz; y = a .ny; x = a .nx }) (record { z = b .nz; y = b .ny; x = b .nx }) d → Reach (record { z = a .nz; y = a .ny; x = a .nx }) (record { z = a .nz; y = a .ny; x = a .nx }) d
-  auto-reached r = subst (λ (c : CartesianBlock). Reach (record { z = a .nz; y = a .ny; x = a .nx }) (record { z = c .nz; y = c .ny; x = c .nx }) d) (sym (same t)) r
+  pub auto-mean : (setup : Setup) (i sa ta : ℕ) (q : Mean) → q ≡ blockInMean setup (fieldsIn a) (fieldsIn a) i j sa s ta t n k 0 l noMean → q ≡ blockInMean setup (fieldsIn a) (fieldsIn b) i j sa s ta t n k 0 l noMean
+  auto-mean setup i sa ta q e = e ∙ ap (λ (c : CartesianBlock). blockInMean setup (fieldsIn a) (fieldsIn c) i j sa s ta t n k 0 l noMean) (same u)

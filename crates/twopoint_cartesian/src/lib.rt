@@ -71,7 +71,7 @@ fn displaced_squared(d: i64, ga: i64, gb: i64, width: f64) -> f64
     requires { ⌜ Near d ⌝ ∗ ⌜ Near ga ⌝ ∗ ⌜ Near gb ⌝ }
     ensures { λ r. ⌜ r ≡ square (displaced d ga gb width) ⌝ }
 {
-    let c = std::num::nearest_i64_to_f64(d + gb - ga) * width;
+    let c = ((d + gb - ga) as f64) * width;
     c * c
 }
 
@@ -510,8 +510,9 @@ fn overlap(a: Block, b: Block, o: Idx3DOffset) -> Axes
     Axes { z, y, x }
 }
 
-// The mean of the cells of the offset.
-fn mean_of_cells(
+// The mean of the cells of the offset. Two calls keep the compiler from putting the loops into the walk over the offsets, where they run short of registers.
+fn mean_of_offset(
+    auto: bool,
     setup: Setup,
     a0: &[f64],
     a1: &[f64],
@@ -526,6 +527,7 @@ fn mean_of_cells(
     o: Idx3DOffset,
 ) -> Mean
     requires { ⌜ Ready (blockOf a (now a0) (now a1) (now a2) (now aw)) ⌝ ∗ ⌜ Ready (blockOf b (now b0) (now b1) (now b2) (now bw)) ⌝ ∗ ⌜ Reach (axesOf a) (axesOf b) (idxOf o) ⌝ }
+    requires { ⌜ (auto ≡ true → blockOf a (now a0) (now a1) (now a2) (now aw) ≡ blockOf b (now b0) (now b1) (now b2) (now bw)) ⌝ }
     ensures { λ r. ⌜ r ≡ offsetMean setup (blockOf a (now (a0 .entry)) (now (a1 .entry)) (now (a2 .entry)) (now (aw .entry)))
         (blockOf b (now (b0 .entry)) (now (b1 .entry)) (now (b2 .entry)) (now (bw .entry))) (idxOf o) ⌝ }
 {
@@ -536,6 +538,29 @@ fn mean_of_cells(
         total: 0.0,
         weight: 0.0,
     };
+    if auto {
+        return block_in_mean(
+            setup,
+            a0,
+            a1,
+            a2,
+            aw,
+            a0,
+            a1,
+            a2,
+            aw,
+            i,
+            j,
+            a.sy,
+            b.sy,
+            a.sz,
+            b.sz,
+            n.x,
+            n.y,
+            n.z,
+            first,
+        );
+    }
     block_in_mean(
         setup,
         a0,
@@ -557,33 +582,6 @@ fn mean_of_cells(
         n.z,
         first,
     )
-}
-
-// Two calls keep the compiler from putting the loops into the walk over the offsets, where they run short of registers.
-fn mean_of_offset(
-    auto: bool,
-    setup: Setup,
-    a0: &[f64],
-    a1: &[f64],
-    a2: &[f64],
-    aw: &[f64],
-    a: Block,
-    b0: &[f64],
-    b1: &[f64],
-    b2: &[f64],
-    bw: &[f64],
-    b: Block,
-    o: Idx3DOffset,
-) -> Mean
-    requires { ⌜ Ready (blockOf a (now a0) (now a1) (now a2) (now aw)) ⌝ ∗ ⌜ Ready (blockOf b (now b0) (now b1) (now b2) (now bw)) ⌝ ∗ ⌜ Reach (axesOf a) (axesOf b) (idxOf o) ⌝ }
-    requires { ⌜ (auto ≡ true → blockOf a (now a0) (now a1) (now a2) (now aw) ≡ blockOf b (now b0) (now b1) (now b2) (now bw)) ⌝ }
-    ensures { λ r. ⌜ r ≡ offsetMean setup (blockOf a (now (a0 .entry)) (now (a1 .entry)) (now (a2 .entry)) (now (aw .entry)))
-        (blockOf b (now (b0 .entry)) (now (b1 .entry)) (now (b2 .entry)) (now (bw .entry))) (idxOf o) ⌝ }
-{
-    if auto {
-        return mean_of_cells(setup, a0, a1, a2, aw, a, a0, a1, a2, aw, a, o);
-    }
-    mean_of_cells(setup, a0, a1, a2, aw, a, b0, b1, b2, bw, b, o)
 }
 
 // ---- a state of its own for each offset, merged once into its bin
