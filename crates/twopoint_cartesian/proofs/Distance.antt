@@ -1,12 +1,13 @@
 -- The index displacement as the machine forms it, and the squared distance of an offset. Assumes nothing.
-use mathlib.Core.Path.{_≡_, refl, sym, ap, _∙_}
+use mathlib.Core.Path.{_≡_, ap, _∙_}
 use mathlib.Core.Bool.{false}
 use mathlib.Core.List.{[]}
-use Prim.Native.Nat.{ℕ, _+_, _≤_}
+use Prim.Native.Nat.{_+_, _^_, _≤_}
 use native.Mathlib.Omega.{arith}
 use lib.IntN.{ℤ, pos, negsuc, natAbs, _+ℤ_, _-ℤ_}
+use lib.Dec.{T, le→leb, lt→ltb}
 use lib.Signed.{mag}
-use lib.Ieee.{Float, binary64, add, mul, ofInt, ofBits}
+use lib.Ieee.{Float, binary64, add, mul, ofInt, ofBits, inFloat}
 use mir.Syntax.{w64}
 use mir.Val.{SFits, toZ, ofZ}
 use mir.ValLaws.{toZ-ofZ}
@@ -28,6 +29,11 @@ mag-abs (negsuc n) = omega arith
 fits : (z : ℤ) → natAbs z ≤ 3_000_000 → SFits w64 z
 fits z h = record { sfits = omega (arith, mag-abs z) }
 
+exact : (z : ℤ) → natAbs z ≤ 3_000_000 → T (inFloat binary64 z)
+unfolding inFloat
+exact (pos n) h = le→leb n (2 ^ 53) (omega arith)
+exact (negsuc n) h = lt→ltb n (2 ^ 53) (omega arith)
+
 module _ (z : ℤ) (n : Near z) where
   pub back : toZ w64 (ofZ w64 z) ≡ z
   back = toZ-ofZ w64 z (fits z (omega (arith, n .near)))
@@ -45,12 +51,20 @@ module _ (d ga gb : ℤ) (nd : Near d) (na : Near ga) (nb : Near gb) where
   difference : toZ w64 (ofZ w64 (toZ w64 (ofZ w64 d) +ℤ toZ w64 (ofZ w64 gb))) -ℤ toZ w64 (ofZ w64 ga) ≡ d +ℤ gb -ℤ ga
   difference = λ t. (toZ-ofZ w64 (toZ w64 (ofZ w64 d) +ℤ toZ w64 (ofZ w64 gb)) sum-fits ∙ sum) t -ℤ back ga na t
 
-  pub difference-fits : SFits w64 (toZ w64 (ofZ w64 (toZ w64 (ofZ w64 d) +ℤ toZ w64 (ofZ w64 gb))) -ℤ toZ w64 (ofZ w64 ga))
-  difference-fits = rw difference (fits (d +ℤ gb -ℤ ga) (omega (arith, abs-sub (d +ℤ gb) ga, small, na .near)))
+  difference-small : natAbs (d +ℤ gb -ℤ ga) ≤ 3_000_000
+  difference-small = omega (arith, abs-sub (d +ℤ gb) ga, small, na .near)
 
-  pub squared : (width r : Float) → r ≡ ofInt binary64 (toZ w64 (ofZ w64 (toZ w64 (ofZ w64 (toZ w64 (ofZ w64 d) +ℤ toZ w64 (ofZ w64 gb))) -ℤ toZ w64 (ofZ w64 ga))))
-      → mul binary64 (mul binary64 r width) (mul binary64 r width) ≡ square (displaced d ga gb width)
-  squared width r e = ap (λ (x : Float). square (mul binary64 x width)) (e ∙ ap (ofInt binary64) (toZ-ofZ w64 _ difference-fits ∙ difference))
+  pub difference-fits : SFits w64 (toZ w64 (ofZ w64 (toZ w64 (ofZ w64 d) +ℤ toZ w64 (ofZ w64 gb))) -ℤ toZ w64 (ofZ w64 ga))
+  difference-fits = rw difference (fits (d +ℤ gb -ℤ ga) difference-small)
+
+  difference-back : toZ w64 (ofZ w64 (toZ w64 (ofZ w64 (toZ w64 (ofZ w64 d) +ℤ toZ w64 (ofZ w64 gb))) -ℤ toZ w64 (ofZ w64 ga))) ≡ d +ℤ gb -ℤ ga
+  difference-back = toZ-ofZ w64 _ difference-fits ∙ difference
+
+  pub difference-exact : T (inFloat binary64 (toZ w64 (ofZ w64 (toZ w64 (ofZ w64 (toZ w64 (ofZ w64 d) +ℤ toZ w64 (ofZ w64 gb))) -ℤ toZ w64 (ofZ w64 ga)))))
+  difference-exact = rw difference-back (exact (d +ℤ gb -ℤ ga) difference-small)
+
+  pub squared : (width : Float) → square (mul binary64 (ofInt binary64 (toZ w64 (ofZ w64 (toZ w64 (ofZ w64 (toZ w64 (ofZ w64 d) +ℤ toZ w64 (ofZ w64 gb))) -ℤ toZ w64 (ofZ w64 ga))))) width) ≡ square (displaced d ga gb width)
+  squared width = ap (λ (z : ℤ). square (mul binary64 (ofInt binary64 z) width)) difference-back
 
   -- of numbers that are read back
   pub same-displaced : (width r : Float) → r ≡ square (displaced (toZ w64 (ofZ w64 d)) (toZ w64 (ofZ w64 ga)) (toZ w64 (ofZ w64 gb)) width) → r ≡ square (displaced d ga gb width)

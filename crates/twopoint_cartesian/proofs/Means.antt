@@ -1,31 +1,33 @@
 -- A mean's cells in locals: the two numbers, summed apart, are the state that the cells leave. Assumes nothing.
 use mathlib.Core.Path.{_≡_, refl, sym, ap, subst, _∙_}
+use mathlib.Core.Logic.{_⊎_, inl, inr}
 use mathlib.Core.Bool.{Bool, true, false, true≢false}
 use mathlib.Core.List.{List}
 use Prim.Native.Nat.{ℕ, zero, suc, _+_, _-_, _*_, _<_, _≤_}
 use native.Mathlib.Nat.{sub-zero}
 use native.Mathlib.Omega.{arith}
-use lib.ListN.{length}
 use lib.Ieee.{Float, binary64, add, mul}
+use denote.Enum.Declared.{tagOf}
 use mathlib.Core.Option.{some}
 use Rattle.definitions.specs.Blocks as blocks
-use Rattle.definitions.specs.Blocks.{CartesianBlock, cellIndex, count}
+use Rattle.definitions.specs.Blocks.{CartesianBlock, cellIndex, count, cellPairs, distanceSquared}
 use Rattle.definitions.specs.Reducer as definitions
 use Rattle.definitions.specs.Reducer.{componentSum}
 use Rattle.laws.proofs.Loops.{loopLeft}
+use Rattle.laws.proofs.Places.{foldPack}
 use Rattle.reducer.specs.declared.Datum.{Datum}
 use Rattle.reducer.specs.declared.BuiltEdges.{BuiltEdges}
 use Rattle.reducer.specs.declared.Reducer.{Reducer}
 use Rattle.reducer.specs.declared.Reducer.the-variants.{Comp0Mean, ComponentSumMean, ComponentSumHistogram}
 use Rattle.reducer.specs.Readings.{theDatum}
 use Rattle.reducer.specs.Consume as consume
-use Rattle.reducer.specs.Consume.{reducerSize, consumed}
+use Rattle.reducer.specs.Consume.{builtBin, reducerSize, consumed}
+use Rattle.reducer.proofs.Reducer as reducers
 use Rattle.reducer.proofs.Placewise.{room}
 use Rattle.idx_3d_offset.specs.declared.Axes.{Axes}
-use Rattle.idx_3d_offset.specs.Offsets.{Reach}
 use Rattle.twopoint_cartesian.specs.declared.Setup.{Setup}
 use Rattle.twopoint_cartesian.specs.declared.Mean.{Mean}
-use Rattle.twopoint_cartesian.specs.Cells.{Fields, datumIn, cellsAdded, rowAdded, planeAdded, blockAdded, scalarOf, isMean, meanAdded, noMean, meanState, cellsInMean, rowInMean, planeInMean, blockInMean, fieldsIn, firstA, firstB, overlapOf, offsetMean, offsetCells, fresh, Ready, Room, stateMerged, mergedIn}
+use Rattle.twopoint_cartesian.specs.Cells.{Fields, BlockFits, datumIn, cellsAdded, rowAdded, planeAdded, blockAdded, scalarOf, isMean, meanAdded, noMean, meanState, cellsInMean, rowInMean, planeInMean, blockInMean, fieldsIn, firstA, firstB, overlapOf, offsetMean, pairStep, offsetCells, fresh, Ready, stateMerged, mergedIn, offsetAdded, offsetsAdded}
 use Rattle.twopoint_cartesian.proofs.Loops.{left-turn, left-done}
 use Rattle.twopoint_cartesian.proofs.Cells.{offset-cells}
 
@@ -126,27 +128,40 @@ module _ (setup : Setup) (valueEdges : List Float) (e : isMean (setup .reducer) 
       sym (offset-cells setup valueEdges a b ea eb d (fresh 2))
       ∙ mean-block (fieldsIn a) (fieldsIn b) (cellIndex a (firstA d)) (cellIndex b (firstB d)) (a .sy) (b .sy) (a .sz) (b .sz) (count (a .nx) (b .nx) (d .dx)) (count (a .ny) (b .ny) (d .dy)) (count (a .nz) (b .nz) (d .dz)) noMean
 
-  mean-merged : (a b : CartesianBlock) → Ready a → Ready b → (d : blocks.Idx3DOffset) (bin size : ℕ) (s q : List Float) → size ≡ 2 → q ≡ stateMerged (setup .«n_states») bin (meanState (offsetMean setup a b d)) 0 2 s
-      → q ≡ mergedIn (some bin) (setup .«n_states») (offsetCells setup valueEdges a b d (fresh size)) s
-  mean-merged a b ha hb d bin size s q z h =
-      h ∙ (λ t. mergedIn (some bin) (setup .«n_states») (sym (cells-mean a b (ha .x-stride) (hb .x-stride) d) t) s) ∙ ap (λ (k : ℕ). mergedIn (some bin) (setup .«n_states») (offsetCells setup valueEdges a b d (fresh k)) s) (sym z)
+  -- m is what a call answered
+  pub mean-merged : (a b : CartesianBlock) → Ready a → Ready b → (d : blocks.Idx3DOffset) (bin : ℕ) (m : Mean) (s q : List Float) → m ≡ offsetMean setup a b d → q ≡ stateMerged (setup .«n_states») bin (meanState m) 0 2 s
+      → q ≡ mergedIn (some bin) (setup .«n_states») (offsetCells setup valueEdges a b d (fresh 2)) s
+  mean-merged a b ha hb d bin m s q f h = h ∙ λ t. mergedIn (some bin) (setup .«n_states») ((ap meanState f ∙ sym (cells-mean a b (ha .x-stride) (hb .x-stride) d)) t) s
 
--- by the arm
-module _ (setup : Setup) (valueEdges : List Float) (a b : CartesianBlock) (ha : Ready a) (hb : Ready b) (d : blocks.Idx3DOffset) (bin size : ℕ) (s q : List Float)
-    (z : size ≡ reducerSize (setup .reducer) (length valueEdges)) where
-  pub comp0-merged : setup .reducer ≡ Comp0Mean → q ≡ stateMerged (setup .«n_states») bin (meanState (offsetMean setup a b d)) 0 2 s → q ≡ mergedIn (some bin) (setup .«n_states») (offsetCells setup valueEdges a b d (fresh size)) s
-  comp0-merged t = mean-merged setup valueEdges (ap isMean t) a b ha hb d bin size s q (z ∙ ap (λ (k : Reducer). reducerSize k (length valueEdges)) t)
+-- ---- a mean reads no value edges
+any-edges : (k : Reducer) → isMean k ≡ true → (es fs : List Float) → consumed k es ≡ consumed k fs
+unfolding consume.consumed consume.consumedAt
+any-edges Comp0Mean e es fs = refl
+any-edges ComponentSumMean e es fs = refl
+any-edges (ComponentSumHistogram edges) e es fs = absurd (true≢false (sym e))
 
-  pub sum-merged : setup .reducer ≡ ComponentSumMean → q ≡ stateMerged (setup .«n_states») bin (meanState (offsetMean setup a b d)) 0 2 s → q ≡ mergedIn (some bin) (setup .«n_states») (offsetCells setup valueEdges a b d (fresh size)) s
-  sum-merged t = mean-merged setup valueEdges (ap isMean t) a b ha hb d bin size s q (z ∙ ap (λ (k : Reducer). reducerSize k (length valueEdges)) t)
+module _ (setup : Setup) (e : isMean (setup .reducer) ≡ true) where
+  any-pair : (es fs : List Float) (a b : CartesianBlock) → pairStep setup es a b ≡ pairStep setup fs a b
+  unfolding pairStep cellsAdded
+  any-pair es fs a b = λ t q s. any-edges (setup .reducer) e es fs t 1 0 (datumIn setup (fieldsIn a) (fieldsIn b) (cellIndex a (q .0)) (cellIndex b (q .1))) s
 
--- a mean's room
-module _ (k : Reducer) (m n bin size len : ℕ) (z : size ≡ reducerSize k m) (r : Room n bin size len) where
-  pub comp0-room : k ≡ Comp0Mean → Room n bin 2 len
-  comp0-room t = rw (sym (z ∙ ap (λ (k : Reducer). reducerSize k m) t)) r
+  pub any-added : (list es fs : List Float) (width : blocks.CellWidth) (a b : CartesianBlock) (size : ℕ) (l : List blocks.Idx3DOffset) (s : List Float)
+      → offsetsAdded setup list es width a b size l s ≡ offsetsAdded setup list fs width a b size l s
+  unfolding offsetCells offsetAdded offsetsAdded
+  any-added list es fs width a b size l s =
+      λ t. foldPack (λ d s. mergedIn (builtBin (setup .edges) list (distanceSquared width a b d)) (setup .«n_states») (foldPack (any-pair es fs a b t) (cellPairs a b d) (fresh size)) s) l s
 
-  pub sum-room : k ≡ ComponentSumMean → Room n bin 2 len
-  sum-room t = rw (sym (z ∙ ap (λ (k : Reducer). reducerSize k m) t)) r
+-- what the arm of no histogram is told
+pub mean-told : (k : Reducer) → (tagOf reducers.the-type k ≡ 0) ⊎ (tagOf reducers.the-type k ≡ 1) → isMean k ≡ true
+mean-told Comp0Mean h = refl
+mean-told ComponentSumMean h = refl
+mean-told (ComponentSumHistogram edges) (inl h) = absurd (omega (arith, h))
+mean-told (ComponentSumHistogram edges) (inr h) = absurd (omega (arith, h))
+
+pub mean-size : (k : Reducer) (m : ℕ) → isMean k ≡ true → reducerSize k m ≡ 2
+mean-size Comp0Mean m e = refl
+mean-size ComponentSumMean m e = refl
+mean-size (ComponentSumHistogram edges) m e = absurd (true≢false (sym e))
 
 -- ---- one offset, by what the calls answered
 pub mean-done-cells : (setup : Setup) (a b : CartesianBlock) (d : blocks.Idx3DOffset) (i j : ℕ) (n : Axes) (q : Mean) → i ≡ cellIndex a (firstA d) → j ≡ cellIndex b (firstB d) → n ≡ overlapOf a b d
@@ -155,9 +170,9 @@ unfolding offsetMean
 mean-done-cells setup a b d i j n q ei ej en e = e ∙ λ t. blockInMean setup (fieldsIn a) (fieldsIn b) (ei t) (ej t) (a .sy) (b .sy) (a .sz) (b .sz) (en t .x) (en t .y) 0 (en t .z) noMean
 
 -- in auto the second block is the first
-module _ (auto : Bool) (a b : CartesianBlock) (t : auto ≡ true) (same : auto ≡ true → a ≡ b) (d : blocks.Idx3DOffset) where
-  pub auto-mean : (setup : Setup) (q : Mean) → q ≡ offsetMean setup a a d → q ≡ offsetMean setup a b d
-  auto-mean setup q e = e ∙ ap (λ (c : CartesianBlock). offsetMean setup a c d) (same t)
+module _ (auto : Bool) (a b : CartesianBlock) (u : auto ≡ true) (same : auto ≡ true → a ≡ b) (j s t n k l : ℕ) where
+  pub auto-fits : BlockFits (fieldsIn b) j s t n k l → BlockFits (fieldsIn a) j s t n k l
+  auto-fits h = subst (λ (c : CartesianBlock). BlockFits (fieldsIn c) j s t n k l) (sym (same u)) h
 
-  pub auto-reached : Reach (record { z = a .nz; y = a .ny; x = a .nx }) (record { z = b .nz; y = b .ny; x = b .nx }) d → Reach (record { z = a .nz; y = a .ny; x = a .nx }) (record { z = a .nz; y = a .ny; x = a .nx }) d
-  auto-reached r = subst (λ (c : CartesianBlock). Reach (record { z = a .nz; y = a .ny; x = a .nx }) (record { z = c .nz; y = c .ny; x = c .nx }) d) (sym (same t)) r
+  pub auto-mean : (setup : Setup) (i sa ta : ℕ) (q : Mean) → q ≡ blockInMean setup (fieldsIn a) (fieldsIn a) i j sa s ta t n k 0 l noMean → q ≡ blockInMean setup (fieldsIn a) (fieldsIn b) i j sa s ta t n k 0 l noMean
+  auto-mean setup i sa ta q e = e ∙ ap (λ (c : CartesianBlock). blockInMean setup (fieldsIn a) (fieldsIn c) i j sa s ta t n k 0 l noMean) (same u)

@@ -111,9 +111,6 @@ module _ (n bin len k : ℕ) (r : Room n bin 2 len) where
   pub mean-place : (e : ℕ) → e < 2 → k ≡ place n e bin → k < len
   mean-place e h q = merge-place n bin 2 len e k r h q
 
-pub mean-into : (n bin : ℕ) (m z : Mean) (s q : List Float) → m ≡ z → q ≡ stateMerged n bin (meanState m) 0 2 s → q ≡ stateMerged n bin (meanState z) 0 2 s
-mean-into n bin m z s q e h = h ∙ ap (λ (x : Mean). stateMerged n bin (meanState x) 0 2 s) e
-
 pub mean-stored : (n bin : ℕ) (m : Mean) (s : List Float) (j k : ℕ) → j ≡ place n 0 bin → k ≡ place n 1 bin → bump k (m .weight) (bump j (m .total) s) ≡ stateMerged n bin (meanState m) 0 2 s
 unfolding stateMerged
 mean-stored n bin m s j k ej ek = λ t. bump (ek t) (m .weight) (bump (ej t) (m .total) s)

@@ -29,12 +29,12 @@ use Rattle.reducer.specs.Consume.{builtBins, builtFind, builtBin, addIn, reduce
 use Rattle.reducer.proofs.Placewise.{room, consumed-length}
 use Rattle.edge_table.specs.declared.Table.{Table}
 use Rattle.edge_table.specs.Table.{numberOr, foundOf}
-use Rattle.edge_table.specs.Tabled.{TabledValues}
 use Rattle.edge_table.proofs.Batch.{found-bins}
 use Rattle.idx_3d_offset.specs.declared.Axes.{Axes}
 use Rattle.idx_3d_offset.specs.Offsets.{Reach}
 use Rattle.twopoint_cartesian.specs.declared.Setup.{Setup}
-use Rattle.twopoint_cartesian.specs.Cells.{Fields, readingIn, datumIn, cellsAdded, rowAdded, rowValue, weightAdded, weightsAdded, Binned, RowRoom, Room, Ready, overlapOf, fresh}
+use Rattle.twopoint_cartesian.specs.declared.Tables.{Tables}
+use Rattle.twopoint_cartesian.specs.Cells.{Fields, readingIn, datumIn, cellsAdded, rowAdded, rowValue, weightAdded, weightsAdded, Binned, RowRoom, Looked, Roomy, Ready, overlapOf, fresh}
 use Rattle.twopoint_cartesian.proofs.Loops.{left-turn, left-done, kept}
 use Rattle.twopoint_cartesian.proofs.Merge.{below-found}
 use Rattle.twopoint_cartesian.proofs.Cells.{count-a}
@@ -148,11 +148,9 @@ binned-cleared setup edges es table s q e u = binned-same setup edges es table (
 pub room-same : (n v f v' f' : ℕ) → v' ≡ v → f' ≡ f → RowRoom n v f → RowRoom n v' f'
 room-same n v f v' f' ev ef u = record { values = ev ∙ u .values; found = ef ∙ u .found }
 
--- a histogram's state and table, by the arm
-pub binned : (setup : Setup) (edges : BuiltEdges) (es : List Float) (table : Table) (n bin size len : ℕ) → setup .reducer ≡ ComponentSumHistogram edges → TabledValues (setup .reducer) es table
-    → size ≡ reducerSize (setup .reducer) (length es) → Room n bin size len → Binned setup edges es table size
-binned setup edges es table n bin size len t h z r =
-    record { kind = t; tabled = rw t at h; sized = z ∙ ap (λ (k : Reducer). reducerSize k (length es)) t; small = r .small }
+-- a histogram's state and table
+pub binned : (setup : Setup) (list es : List Float) (tables : Tables) (size len : ℕ) → Looked setup list es tables → Roomy setup list es size len → Binned setup (tables .edges) es (tables .values) size
+binned setup list es tables size len h r = record { kind = h .kind; tabled = h .values; sized = r .sized ∙ ap (λ (k : Reducer). reducerSize k (length es)) (h .kind); small = r .small }
 
 -- the room of a row, by what calls keep
 pub narrow : (a b : CartesianBlock) → Ready a → Ready b → (d : blocks.Idx3DOffset) → Reach (record { z = a .nz; y = a .ny; x = a .nx }) (record { z = b .nz; y = b .ny; x = b .nx }) d → (n : Axes) → n ≡ overlapOf a b d → n .x ≤ 64

@@ -128,10 +128,6 @@ module _ (setup : Setup) (list valueEdges : List Float) (width : blocks.CellWidt
     unfolding offsetsAdded
     walk-done h inv = ap (λ (m : List blocks.Idx3DOffset). foldPack (offsetAdded setup list valueEdges width a b size) m s) (sym (drop-of-length-le l h)) ∙ inv
 
-pub walk-sized : (setup : Setup) (list valueEdges : List Float) (width : blocks.CellWidth) (a b : CartesianBlock) (l : List blocks.Idx3DOffset) (s q : List Float) (k n : ℕ) → k ≡ n
-    → q ≡ offsetsAdded setup list valueEdges width a b n l s → q ≡ offsetsAdded setup list valueEdges width a b k l s
-walk-sized setup list valueEdges width a b l s q k n e h = h ∙ ap (λ (m : ℕ). offsetsAdded setup list valueEdges width a b m l s) (sym e)
-
 pub roomy-same : (setup : Setup) (list valueEdges : List Float) (k l m n : ℕ) → k ≡ l → m ≡ n → Roomy setup list valueEdges l n → Roomy setup list valueEdges k m
 roomy-same setup list valueEdges k l m n p q r = rw (p, q) r
 

@@ -23,7 +23,7 @@ use Rattle.reducer.specs.declared.Reducer.the-variants.{Comp0Mean, ComponentSum
 use Rattle.reducer.specs.Readings.{opOf}
 use Rattle.reducer.specs.Consume.{builtBins, builtBin, reducerSize, consumed}
 use Rattle.edge_table.specs.declared.Table.{Table}
-use Rattle.edge_table.specs.Tabled.{Usable, Tabled, UsableValues, TabledValues}
+use Rattle.edge_table.specs.Tabled.{Usable, Tabled}
 use Rattle.idx_3d_offset.specs.declared.Axes.{Axes}
 use Rattle.idx_3d_offset.specs.Offsets.{Walkable, crossSeq, autoSeq, idxOf}
 use Rattle.spatial.specs.declared.Block.{Block}
@@ -230,15 +230,17 @@ pub record Room (n b size len : ℕ) : Type 0 where
   pub state : b < n
   pub pack : n * size ≤ len
 
--- edges that lookups by tables find in
-pub record Findable (setup : Setup) (list valueEdges : List Float) : Type 0 where
+-- edges that lookups by tables find in: the setup's, and its histogram's
+pub record Findable (setup : Setup) (edges : BuiltEdges) (list valueEdges : List Float) : Type 0 where
   pub distances : Usable (setup .edges) list
-  pub values : UsableValues (setup .reducer) valueEdges
+  pub kind : setup .reducer ≡ ComponentSumHistogram edges
+  pub values : Usable edges valueEdges
 
 -- the tables made of them
 pub record Looked (setup : Setup) (list valueEdges : List Float) (tables : Tables) : Type 0 where
   pub distances : Tabled (setup .edges) list (tables .distances)
-  pub values : TabledValues (setup .reducer) valueEdges (tables .values)
+  pub kind : setup .reducer ≡ ComponentSumHistogram (tables .edges)
+  pub values : Tabled (tables .edges) valueEdges (tables .values)
 
 -- the setup's states are its bins, each of the kind's size, and there is room for them
 pub record Roomy (setup : Setup) (list valueEdges : List Float) (size len : ℕ) : Type 0 where

@@ -19,7 +19,7 @@ ghost use mathlib.Core.Bool.{true, cond};
 ghost use mathlib.Core.List.{[]};
 ghost use mathlib.Core.Option.{some};
 ghost use Prim.Native.Nat.{_+_, _*_, _<_, _≤_};
-ghost use lib.ListN.{length, getElem?};
+ghost use lib.ListN.{length, getElem?, take};
 ghost use Rattle.definitions.specs.Lists.{overwritten};
 ghost use Rattle.definitions.specs.Points.{square};
 ghost use Rattle.definitions.specs.Blocks.{cell, cellIndex, displaced, distanceSquared};
@@ -28,15 +28,15 @@ ghost use Rattle.definitions.specs.Run.{place, merged};
 ghost use Rattle.bins.specs.Answers.{indexOf};
 ghost use Rattle.state.specs.Readings.{numberOf};
 ghost use Rattle.reducer.specs.Readings.{theDatum, readingOf, edgesOf, kindOf};
-ghost use Rattle.reducer.specs.Consume.{builtBin, reducerSize};
-ghost use Rattle.edge_table.specs.Tabled.{Tabled, TabledValues};
-ghost use Rattle.parallel_serial.specs.Drive.{addedScratch};
+ghost use Rattle.reducer.specs.Consume.{builtBin};
+ghost use Rattle.edge_table.specs.Tabled.{Usable, Tabled};
+ghost use Rattle.parallel_serial.specs.Drive.{zeroPack, addedScratch};
 ghost use Rattle.parallel_serial.proofs.Refusals.{Drivable};
 ghost use Rattle.idx_3d_offset.specs.Offsets.{idxOf, offsetOf, Reach};
 ghost use Rattle.spatial.specs.Readings.{blockOf, widthOf};
 ghost use Rattle.spatial.specs.Refusals.{setsFor};
 ghost use Rattle.twopoint_cartesian.specs.Readings.{axesOf, setsRun, autoRun, crossRun};
-ghost use Rattle.twopoint_cartesian.specs.Cells.{fields, readingIn, datumIn, rowValue, weightAdded, weightsAdded, Binned, RowRoom, Wide, Holds, RowFits, PlaneFits, BlockFits, Near, AllNear, Ready, Placed, rowAdded, scalarOf, cellsInMean, rowInMean, planeInMean, blockInMean, offsetMean, meanState, Looked, Findable, planeAdded, blockAdded, firstA, firstB, overlapOf, offsetCells, zeroState, fresh, Room, Roomy, stateMerged, mergedIn, numberAdded, offsetsAdded, seqFor, Walked, stepOf, stepFor};
+ghost use Rattle.twopoint_cartesian.specs.Cells.{fields, readingIn, datumIn, rowValue, weightAdded, weightsAdded, Binned, RowRoom, Wide, Holds, RowFits, PlaneFits, BlockFits, Near, AllNear, Ready, Placed, rowAdded, scalarOf, isMean, cellsInMean, rowInMean, planeInMean, blockInMean, offsetMean, meanState, Looked, Findable, planeAdded, blockAdded, firstA, firstB, overlapOf, offsetCells, zeroState, fresh, Room, Roomy, stateMerged, mergedIn, numberAdded, offsetsAdded, seqFor, Walked, stepOf, stepFor};
 
 // What is the same for each offset of a run.
 struct Setup {
@@ -46,9 +46,10 @@ struct Setup {
     n_states: usize,
 }
 
-// For the lookups of distances and of values.
+// For the lookups of distances, and of values in a histogram's edges.
 struct Tables {
     distances: Table,
+    edges: BuiltEdges,
     values: Table,
 }
 
@@ -71,7 +72,7 @@ fn displaced_squared(d: i64, ga: i64, gb: i64, width: f64) -> f64
     requires { ⌜ Near d ⌝ ∗ ⌜ Near ga ⌝ ∗ ⌜ Near gb ⌝ }
     ensures { λ r. ⌜ r ≡ square (displaced d ga gb width) ⌝ }
 {
-    let c = std::num::nearest_i64_to_f64(d + gb - ga) * width;
+    let c = ((d + gb - ga) as f64) * width;
     c * c
 }
 
@@ -510,8 +511,9 @@ fn overlap(a: Block, b: Block, o: Idx3DOffset) -> Axes
     Axes { z, y, x }
 }
 
-// The mean of the cells of the offset.
-fn mean_of_cells(
+// The mean of the cells of the offset. Two calls keep the compiler from putting the loops into the walk over the offsets, where they run short of registers.
+fn mean_of_offset(
+    auto: bool,
     setup: Setup,
     a0: &[f64],
     a1: &[f64],
@@ -526,6 +528,7 @@ fn mean_of_cells(
     o: Idx3DOffset,
 ) -> Mean
     requires { ⌜ Ready (blockOf a (now a0) (now a1) (now a2) (now aw)) ⌝ ∗ ⌜ Ready (blockOf b (now b0) (now b1) (now b2) (now bw)) ⌝ ∗ ⌜ Reach (axesOf a) (axesOf b) (idxOf o) ⌝ }
+    requires { ⌜ (auto ≡ true → blockOf a (now a0) (now a1) (now a2) (now aw) ≡ blockOf b (now b0) (now b1) (now b2) (now bw)) ⌝ }
     ensures { λ r. ⌜ r ≡ offsetMean setup (blockOf a (now (a0 .entry)) (now (a1 .entry)) (now (a2 .entry)) (now (aw .entry)))
         (blockOf b (now (b0 .entry)) (now (b1 .entry)) (now (b2 .entry)) (now (bw .entry))) (idxOf o) ⌝ }
 {
@@ -536,6 +539,29 @@ fn mean_of_cells(
         total: 0.0,
         weight: 0.0,
     };
+    if auto {
+        return block_in_mean(
+            setup,
+            a0,
+            a1,
+            a2,
+            aw,
+            a0,
+            a1,
+            a2,
+            aw,
+            i,
+            j,
+            a.sy,
+            b.sy,
+            a.sz,
+            b.sz,
+            n.x,
+            n.y,
+            n.z,
+            first,
+        );
+    }
     block_in_mean(
         setup,
         a0,
@@ -557,33 +583,6 @@ fn mean_of_cells(
         n.z,
         first,
     )
-}
-
-// Two calls keep the compiler from putting the loops into the walk over the offsets, where they run short of registers.
-fn mean_of_offset(
-    auto: bool,
-    setup: Setup,
-    a0: &[f64],
-    a1: &[f64],
-    a2: &[f64],
-    aw: &[f64],
-    a: Block,
-    b0: &[f64],
-    b1: &[f64],
-    b2: &[f64],
-    bw: &[f64],
-    b: Block,
-    o: Idx3DOffset,
-) -> Mean
-    requires { ⌜ Ready (blockOf a (now a0) (now a1) (now a2) (now aw)) ⌝ ∗ ⌜ Ready (blockOf b (now b0) (now b1) (now b2) (now bw)) ⌝ ∗ ⌜ Reach (axesOf a) (axesOf b) (idxOf o) ⌝ }
-    requires { ⌜ (auto ≡ true → blockOf a (now a0) (now a1) (now a2) (now aw) ≡ blockOf b (now b0) (now b1) (now b2) (now bw)) ⌝ }
-    ensures { λ r. ⌜ r ≡ offsetMean setup (blockOf a (now (a0 .entry)) (now (a1 .entry)) (now (a2 .entry)) (now (aw .entry)))
-        (blockOf b (now (b0 .entry)) (now (b1 .entry)) (now (b2 .entry)) (now (bw .entry))) (idxOf o) ⌝ }
-{
-    if auto {
-        return mean_of_cells(setup, a0, a1, a2, aw, a, a0, a1, a2, aw, a, o);
-    }
-    mean_of_cells(setup, a0, a1, a2, aw, a, b0, b1, b2, bw, b, o)
 }
 
 // ---- a state of its own for each offset, merged once into its bin
@@ -645,10 +644,68 @@ fn bin_of_offset(
     edge_table::bin_of(edges, list, distances, distance)
 }
 
-// A mean's cells, into its bin.
+// ---- the walk over the offsets; in auto the two blocks are one
+
+fn axes_of(b: Block) -> Axes
+    ensures { λ r. ⌜ r ≡ axesOf b ⌝ }
+{
+    Axes {
+        z: b.nz,
+        y: b.ny,
+        x: b.nx,
+    }
+}
+
+fn seq_len(auto: bool, a: Block, b: Block) -> usize
+    ensures { λ r. ⌜ r ≡ length (seqFor auto (axesOf a) (axesOf b)) ⌝ }
+{
+    if auto {
+        return idx_3d_offset::auto_len(axes_of(a));
+    }
+    idx_3d_offset::cross_len(axes_of(a), axes_of(b))
+}
+
+fn seq_get(auto: bool, a: Block, b: Block, i: usize) -> Offset
+    ensures { λ r. ⌜ offsetOf r ≡ getElem? (seqFor auto (axesOf a) (axesOf b)) i ⌝ }
+{
+    if auto {
+        return idx_3d_offset::auto_offset(axes_of(a), i);
+    }
+    idx_3d_offset::cross_offset(axes_of(a), axes_of(b), i)
+}
+
+// Offset number i and its bin.
+fn step_at(
+    auto: bool,
+    setup: Setup,
+    distances: Table,
+    list: &[f64],
+    width: CellWidth,
+    a: Block,
+    b: Block,
+    i: usize,
+) -> Step
+    requires { ⌜ Walked auto a b i ⌝ ∗ ⌜ Tabled (setup .edges) (now list) distances ⌝ }
+    ensures { λ r. ⌜ stepOf r ≡ stepFor (setup .edges) (now (list .entry)) (distanceSquared (widthOf width) (blockOf a [] [] [] []) (blockOf b [] [] [] [])) (getElem? (seqFor auto (axesOf a) (axesOf b)) i) ⌝ }
+{
+    match seq_get(auto, a, b, i) {
+        Offset::At(o) => match bin_of_offset(setup, distances, list, width, a, b, o) {
+            BinIndex::At(bin) => Step::At(o, bin),
+            BinIndex::None => Step::None,
+        },
+        Offset::End => Step::None,
+    }
+}
+
+// ---- means, which read no value edges
+
+// The mean of offset number i, into its bin, if its distance has one.
 fn add_mean(
     auto: bool,
     setup: Setup,
+    distances: Table,
+    list: &[f64],
+    width: CellWidth,
     a0: &[f64],
     a1: &[f64],
     a2: &[f64],
@@ -659,18 +716,127 @@ fn add_mean(
     b2: &[f64],
     bw: &[f64],
     b: Block,
-    o: Idx3DOffset,
-    bin: usize,
+    i: usize,
     scratch: &mut [f64],
 )
-    requires { ⌜ Ready (blockOf a (now a0) (now a1) (now a2) (now aw)) ⌝ ∗ ⌜ Ready (blockOf b (now b0) (now b1) (now b2) (now bw)) ⌝ ∗ ⌜ Reach (axesOf a) (axesOf b) (idxOf o) ⌝ }
-    requires { ⌜ (auto ≡ true → blockOf a (now a0) (now a1) (now a2) (now aw) ≡ blockOf b (now b0) (now b1) (now b2) (now bw)) ⌝ ∗ ⌜ Room (setup .«n_states») bin 2 (length (now scratch)) ⌝ }
-    ensures { λ _. ⌜ now (scratch .exit) ≡ stateMerged (setup .«n_states») bin (meanState (offsetMean setup (blockOf a (now (a0 .entry)) (now (a1 .entry)) (now (a2 .entry)) (now (aw .entry)))
-        (blockOf b (now (b0 .entry)) (now (b1 .entry)) (now (b2 .entry)) (now (bw .entry))) (idxOf o))) 0 2 (now (scratch .entry)) ⌝ }
+    requires { ⌜ Ready (blockOf a (now a0) (now a1) (now a2) (now aw)) ⌝ ∗ ⌜ Ready (blockOf b (now b0) (now b1) (now b2) (now bw)) ⌝ ∗ ⌜ (auto ≡ true → blockOf a (now a0) (now a1) (now a2) (now aw) ≡ blockOf b (now b0) (now b1) (now b2) (now bw)) ⌝ ∗ ⌜ i < length (seqFor auto (axesOf a) (axesOf b)) ⌝ }
+    requires { ⌜ isMean (setup .reducer) ≡ true ⌝ ∗ ⌜ Tabled (setup .edges) (now list) distances ⌝ ∗ ⌜ Roomy setup (now list) [] 2 (length (now scratch)) ⌝ }
+    ensures { λ _. ⌜ now (scratch .exit) ≡ numberAdded setup (now (list .entry)) [] (widthOf width) (blockOf a (now (a0 .entry)) (now (a1 .entry)) (now (a2 .entry)) (now (aw .entry)))
+        (blockOf b (now (b0 .entry)) (now (b1 .entry)) (now (b2 .entry)) (now (bw .entry))) 2 (getElem? (seqFor auto (axesOf a) (axesOf b)) i) (now (scratch .entry)) ⌝ }
 {
-    let m = mean_of_offset(auto, setup, a0, a1, a2, aw, a, b0, b1, b2, bw, b, o);
-    merge_mean(setup.n_states, bin, m, scratch);
+    match step_at(auto, setup, distances, list, width, a, b, i) {
+        Step::At(o, bin) => {
+            let m = mean_of_offset(auto, setup, a0, a1, a2, aw, a, b0, b1, b2, bw, b, o);
+            merge_mean(setup.n_states, bin, m, scratch);
+        }
+        Step::None => {}
+    }
 }
+
+// All offsets of the sequence, in order.
+fn fill_means(
+    auto: bool,
+    setup: Setup,
+    distances: Table,
+    list: &[f64],
+    width: CellWidth,
+    a0: &[f64],
+    a1: &[f64],
+    a2: &[f64],
+    aw: &[f64],
+    a: Block,
+    b0: &[f64],
+    b1: &[f64],
+    b2: &[f64],
+    bw: &[f64],
+    b: Block,
+    scratch: &mut [f64],
+)
+    requires { ⌜ Ready (blockOf a (now a0) (now a1) (now a2) (now aw)) ⌝ ∗ ⌜ Ready (blockOf b (now b0) (now b1) (now b2) (now bw)) ⌝ ∗ ⌜ (auto ≡ true → blockOf a (now a0) (now a1) (now a2) (now aw) ≡ blockOf b (now b0) (now b1) (now b2) (now bw)) ⌝ }
+    requires { ⌜ isMean (setup .reducer) ≡ true ⌝ ∗ ⌜ Tabled (setup .edges) (now list) distances ⌝ ∗ ⌜ Roomy setup (now list) [] 2 (length (now scratch)) ⌝ }
+    ensures { λ _. ⌜ now (scratch .exit) ≡ offsetsAdded setup (now (list .entry)) [] (widthOf width) (blockOf a (now (a0 .entry)) (now (a1 .entry)) (now (a2 .entry)) (now (aw .entry)))
+        (blockOf b (now (b0 .entry)) (now (b1 .entry)) (now (b2 .entry)) (now (bw .entry))) 2 (seqFor auto (axesOf a) (axesOf b)) (now (scratch .entry)) ⌝ }
+{
+    let n = seq_len(auto, a, b);
+    for i in 0..n {
+        add_mean(
+            auto,
+            setup,
+            distances,
+            list,
+            width,
+            a0,
+            a1,
+            a2,
+            aw,
+            a,
+            b0,
+            b1,
+            b2,
+            bw,
+            b,
+            i,
+            scratch,
+        );
+    }
+}
+
+// A mean has at most 256 states of two numbers.
+fn zeros_512() -> [f64; 512]
+    ensures { λ r. ⌜ r ≡ take 512 zeroPack ⌝ }
+{
+    [0.0; 512]
+}
+
+// A mean's run, in a scratch of its own, added to the caller's pack.
+fn run_means(
+    auto: bool,
+    setup: Setup,
+    list: &[f64],
+    width: CellWidth,
+    a0: &[f64],
+    a1: &[f64],
+    a2: &[f64],
+    aw: &[f64],
+    a: Block,
+    b0: &[f64],
+    b1: &[f64],
+    b2: &[f64],
+    bw: &[f64],
+    b: Block,
+    pack: &mut [f64],
+)
+    requires { ⌜ Ready (blockOf a (now a0) (now a1) (now a2) (now aw)) ⌝ ∗ ⌜ Ready (blockOf b (now b0) (now b1) (now b2) (now bw)) ⌝ ∗ ⌜ (auto ≡ true → blockOf a (now a0) (now a1) (now a2) (now aw) ≡ blockOf b (now b0) (now b1) (now b2) (now bw)) ⌝ }
+    requires { ⌜ isMean (setup .reducer) ≡ true ⌝ ∗ ⌜ Usable (setup .edges) (now list) ⌝ ∗ ⌜ Roomy setup (now list) [] 2 (setup .«n_states» * 2) ⌝ }
+    ensures { λ _. ⌜ now (pack .exit) ≡ addedScratch (now (pack .entry)) (offsetsAdded setup (now (list .entry)) [] (widthOf width) (blockOf a (now (a0 .entry)) (now (a1 .entry)) (now (a2 .entry)) (now (aw .entry)))
+        (blockOf b (now (b0 .entry)) (now (b1 .entry)) (now (b2 .entry)) (now (bw .entry))) 2 (seqFor auto (axesOf a) (axesOf b)) (take (setup .«n_states» * 2) zeroPack)) ⌝ }
+{
+    let edges = setup.edges;
+    let distances = edge_table::table_of(edges, list, 0.0);
+    let used = setup.n_states * 2;
+    let mut scratch = zeros_512();
+    fill_means(
+        auto,
+        setup,
+        distances,
+        list,
+        width,
+        a0,
+        a1,
+        a2,
+        aw,
+        a,
+        b0,
+        b1,
+        b2,
+        bw,
+        b,
+        &mut scratch[..used],
+    );
+    parallel_serial::add_scratch(&scratch[..used], pack);
+}
+
+// ---- histograms
 
 // A histogram's cells, in a fresh state, into its bin.
 fn add_histogram(
@@ -735,157 +901,7 @@ fn add_histogram(
     merge_state(setup.n_states, bin, state, scratch);
 }
 
-// The cells of one offset, into its bin, by the kind.
-fn add_in_bin(
-    auto: bool,
-    setup: Setup,
-    table: Table,
-    value_edges: &[f64],
-    hints: &[u8],
-    a0: &[f64],
-    a1: &[f64],
-    a2: &[f64],
-    aw: &[f64],
-    a: Block,
-    b0: &[f64],
-    b1: &[f64],
-    b2: &[f64],
-    bw: &[f64],
-    b: Block,
-    o: Idx3DOffset,
-    bin: usize,
-    values: &mut [f64],
-    found: &mut [usize],
-    state: &mut [f64],
-    scratch: &mut [f64],
-)
-    requires { ⌜ Ready (blockOf a (now a0) (now a1) (now a2) (now aw)) ⌝ ∗ ⌜ Ready (blockOf b (now b0) (now b1) (now b2) (now bw)) ⌝ ∗ ⌜ Reach (axesOf a) (axesOf b) (idxOf o) ⌝ }
-    requires { ⌜ (auto ≡ true → blockOf a (now a0) (now a1) (now a2) (now aw) ≡ blockOf b (now b0) (now b1) (now b2) (now bw)) ⌝ ∗ ⌜ TabledValues (setup .reducer) (now «value_edges») table ⌝ }
-    requires { ⌜ Room (setup .«n_states») bin (length (now state)) (length (now scratch)) ⌝ ∗ ⌜ length (now state) ≡ reducerSize (setup .reducer) (length (now «value_edges»)) ⌝ }
-    requires { ⌜ Wide (length (now values)) (length (now found)) ⌝ }
-    ensures { λ _. ⌜ now (scratch .exit) ≡ mergedIn (some bin) (setup .«n_states») (offsetCells setup (now («value_edges» .entry)) (blockOf a (now (a0 .entry)) (now (a1 .entry)) (now (a2 .entry)) (now (aw .entry)))
-        (blockOf b (now (b0 .entry)) (now (b1 .entry)) (now (b2 .entry)) (now (bw .entry))) (idxOf o) (fresh (length (now (state .entry))))) (now (scratch .entry)) ⌝ }
-{
-    let kind = setup.reducer;
-    match kind {
-        Reducer::Comp0Mean => {
-            add_mean(
-                auto,
-                setup,
-                a0,
-                a1,
-                a2,
-                aw,
-                a,
-                b0,
-                b1,
-                b2,
-                bw,
-                b,
-                o,
-                bin,
-                scratch,
-            )
-        }
-        Reducer::ComponentSumMean => {
-            add_mean(
-                auto,
-                setup,
-                a0,
-                a1,
-                a2,
-                aw,
-                a,
-                b0,
-                b1,
-                b2,
-                bw,
-                b,
-                o,
-                bin,
-                scratch,
-            )
-        }
-        Reducer::ComponentSumHistogram(edges) => add_histogram(
-            setup,
-            edges,
-            table,
-            value_edges,
-            hints,
-            a0,
-            a1,
-            a2,
-            aw,
-            a,
-            b0,
-            b1,
-            b2,
-            bw,
-            b,
-            o,
-            bin,
-            values,
-            found,
-            state,
-            scratch,
-        ),
-    }
-}
-
-// ---- the walk over the offsets; in auto the two blocks are one
-
-fn axes_of(b: Block) -> Axes
-    ensures { λ r. ⌜ r ≡ axesOf b ⌝ }
-{
-    Axes {
-        z: b.nz,
-        y: b.ny,
-        x: b.nx,
-    }
-}
-
-fn seq_len(auto: bool, a: Block, b: Block) -> usize
-    ensures { λ r. ⌜ r ≡ length (seqFor auto (axesOf a) (axesOf b)) ⌝ }
-{
-    if auto {
-        return idx_3d_offset::auto_len(axes_of(a));
-    }
-    idx_3d_offset::cross_len(axes_of(a), axes_of(b))
-}
-
-fn seq_get(auto: bool, a: Block, b: Block, i: usize) -> Offset
-    ensures { λ r. ⌜ offsetOf r ≡ getElem? (seqFor auto (axesOf a) (axesOf b)) i ⌝ }
-{
-    if auto {
-        return idx_3d_offset::auto_offset(axes_of(a), i);
-    }
-    idx_3d_offset::cross_offset(axes_of(a), axes_of(b), i)
-}
-
-// Offset number i and its bin.
-fn step_at(
-    auto: bool,
-    setup: Setup,
-    distances: Table,
-    list: &[f64],
-    width: CellWidth,
-    a: Block,
-    b: Block,
-    i: usize,
-) -> Step
-    requires { ⌜ Walked auto a b i ⌝ ∗ ⌜ Tabled (setup .edges) (now list) distances ⌝ }
-    ensures { λ r. ⌜ stepOf r ≡ stepFor (setup .edges) (now (list .entry)) (distanceSquared (widthOf width) (blockOf a [] [] [] []) (blockOf b [] [] [] [])) (getElem? (seqFor auto (axesOf a) (axesOf b)) i) ⌝ }
-{
-    match seq_get(auto, a, b, i) {
-        Offset::At(o) => match bin_of_offset(setup, distances, list, width, a, b, o) {
-            BinIndex::At(bin) => Step::At(o, bin),
-            BinIndex::None => Step::None,
-        },
-        Offset::End => Step::None,
-    }
-}
-
-// The cells of offset number i, if its distance has a bin.
+// The cells of offset number i, into its bin, if its distance has one.
 fn add_number(
     auto: bool,
     setup: Setup,
@@ -918,11 +934,12 @@ fn add_number(
         (blockOf b (now (b0 .entry)) (now (b1 .entry)) (now (b2 .entry)) (now (bw .entry))) (length (now (state .entry))) (getElem? (seqFor auto (axesOf a) (axesOf b)) i) (now (scratch .entry)) ⌝ }
 {
     let distances = tables.distances;
+    let edges = tables.edges;
     let table = tables.values;
     match step_at(auto, setup, distances, list, width, a, b, i) {
-        Step::At(o, bin) => add_in_bin(
-            auto,
+        Step::At(o, bin) => add_histogram(
             setup,
+            edges,
             table,
             value_edges,
             hints,
@@ -1032,10 +1049,11 @@ fn zero_state() -> [f64; 256]
     [0.0; 256]
 }
 
-// The same, with the tables, the hints and the room for a row and a state made here.
-fn fill_tabled(
+// A histogram's run, with its tables, its hints and all room made here, added to the caller's pack.
+fn run_histograms(
     auto: bool,
     setup: Setup,
+    edges: BuiltEdges,
     state_size: usize,
     list: &[f64],
     value_edges: &[f64],
@@ -1050,27 +1068,28 @@ fn fill_tabled(
     b2: &[f64],
     bw: &[f64],
     b: Block,
-    scratch: &mut [f64],
+    pack: &mut [f64],
 )
     requires { ⌜ Ready (blockOf a (now a0) (now a1) (now a2) (now aw)) ⌝ ∗ ⌜ Ready (blockOf b (now b0) (now b1) (now b2) (now bw)) ⌝ ∗ ⌜ (auto ≡ true → blockOf a (now a0) (now a1) (now a2) (now aw) ≡ blockOf b (now b0) (now b1) (now b2) (now bw)) ⌝ }
-    requires { ⌜ Findable setup (now list) (now «value_edges») ⌝ }
-    requires { ⌜ Roomy setup (now list) (now «value_edges») «state_size» (length (now scratch)) ⌝ }
-    ensures { λ _. ⌜ now (scratch .exit) ≡ offsetsAdded setup (now (list .entry)) (now («value_edges» .entry)) (widthOf width) (blockOf a (now (a0 .entry)) (now (a1 .entry)) (now (a2 .entry)) (now (aw .entry)))
-        (blockOf b (now (b0 .entry)) (now (b1 .entry)) (now (b2 .entry)) (now (bw .entry))) «state_size» (seqFor auto (axesOf a) (axesOf b)) (now (scratch .entry)) ⌝ }
+    requires { ⌜ Findable setup edges (now list) (now «value_edges») ⌝ ∗ ⌜ Roomy setup (now list) (now «value_edges») «state_size» (setup .«n_states» * «state_size») ⌝ ∗ ⌜ setup .«n_states» * «state_size» ≤ 4096 ⌝ }
+    ensures { λ _. ⌜ now (pack .exit) ≡ addedScratch (now (pack .entry)) (offsetsAdded setup (now (list .entry)) (now («value_edges» .entry)) (widthOf width) (blockOf a (now (a0 .entry)) (now (a1 .entry)) (now (a2 .entry)) (now (aw .entry)))
+        (blockOf b (now (b0 .entry)) (now (b1 .entry)) (now (b2 .entry)) (now (bw .entry))) «state_size» (seqFor auto (axesOf a) (axesOf b)) (take (setup .«n_states» * «state_size») zeroPack)) ⌝ }
 {
-    let edges = setup.edges;
-    let kind = setup.reducer;
-    let distances = edge_table::table_of(edges, list, 0.0);
-    let value_table = edge_table::value_table_of(kind, value_edges, 4094.0);
+    let built = setup.edges;
+    let distances = edge_table::table_of(built, list, 0.0);
+    let table = edge_table::table_of(edges, value_edges, 4094.0);
     let tables = Tables {
         distances,
-        values: value_table,
+        edges,
+        values: table,
     };
     let hint_room = hint_room(value_edges.len());
-    let hints = hints_of(value_edges, value_table, hint_room);
+    let hints = hints_of(value_edges, table, hint_room);
     let mut values = [0.0; 64];
     let mut found = [0usize; 64];
     let mut state = zero_state();
+    let used = setup.n_states * state_size;
+    let mut scratch = parallel_serial::zeros();
     fill(
         auto,
         setup,
@@ -1092,60 +1111,12 @@ fn fill_tabled(
         &mut values,
         &mut found,
         &mut state[..state_size],
-        scratch,
+        &mut scratch[..used],
     );
+    parallel_serial::add_scratch(&scratch[..used], pack);
 }
 
 // ---- runs
-
-// Fills scratch and adds it to the caller's pack.
-fn run_in(
-    auto: bool,
-    setup: Setup,
-    state_size: usize,
-    list: &[f64],
-    value_edges: &[f64],
-    width: CellWidth,
-    a0: &[f64],
-    a1: &[f64],
-    a2: &[f64],
-    aw: &[f64],
-    a: Block,
-    b0: &[f64],
-    b1: &[f64],
-    b2: &[f64],
-    bw: &[f64],
-    b: Block,
-    scratch: &mut [f64],
-    pack: &mut [f64],
-)
-    requires { ⌜ Ready (blockOf a (now a0) (now a1) (now a2) (now aw)) ⌝ ∗ ⌜ Ready (blockOf b (now b0) (now b1) (now b2) (now bw)) ⌝ ∗ ⌜ (auto ≡ true → blockOf a (now a0) (now a1) (now a2) (now aw) ≡ blockOf b (now b0) (now b1) (now b2) (now bw)) ⌝ }
-    requires { ⌜ Findable setup (now list) (now «value_edges») ⌝ }
-    requires { ⌜ Roomy setup (now list) (now «value_edges») «state_size» (length (now scratch)) ⌝ }
-    ensures { λ _. ⌜ now (pack .exit) ≡ addedScratch (now (pack .entry)) (offsetsAdded setup (now (list .entry)) (now («value_edges» .entry)) (widthOf width) (blockOf a (now (a0 .entry)) (now (a1 .entry)) (now (a2 .entry)) (now (aw .entry)))
-        (blockOf b (now (b0 .entry)) (now (b1 .entry)) (now (b2 .entry)) (now (bw .entry))) «state_size» (seqFor auto (axesOf a) (axesOf b)) (now (scratch .entry))) ⌝ }
-{
-    fill_tabled(
-        auto,
-        setup,
-        state_size,
-        list,
-        value_edges,
-        width,
-        a0,
-        a1,
-        a2,
-        aw,
-        a,
-        b0,
-        b1,
-        b2,
-        bw,
-        b,
-        scratch,
-    );
-    parallel_serial::add_scratch(scratch, pack);
-}
 
 // An accepted run.
 fn drive(
@@ -1177,20 +1148,37 @@ fn drive(
 {
     let built = parallel_serial::build_edges(edges);
     let reducer = parallel_serial::build_reducer(kind);
-    let n_states = shape.n_states;
-    let state_size = shape.state_size;
     let setup = Setup {
         op,
         edges: built,
         reducer,
-        n_states,
+        n_states: shape.n_states,
     };
-    let used = n_states * state_size;
-    let mut scratch = parallel_serial::zeros();
-    run_in(
+    let Reducer::ComponentSumHistogram(value_built) = reducer else {
+        run_means(
+            auto,
+            setup,
+            list,
+            width,
+            a0,
+            a1,
+            a2,
+            aw,
+            a,
+            b0,
+            b1,
+            b2,
+            bw,
+            b,
+            pack,
+        );
+        return;
+    };
+    run_histograms(
         auto,
         setup,
-        state_size,
+        value_built,
+        shape.state_size,
         list,
         value_edges,
         width,
@@ -1204,7 +1192,6 @@ fn drive(
         b2,
         bw,
         b,
-        &mut scratch[..used],
         pack,
     );
 }
