@@ -1024,25 +1024,6 @@ fn fill(
     }
 }
 
-// Edges that are found have hints.
-fn hint_room(edges: usize) -> usize
-    ensures { λ r. ⌜ r ≤ 4096 ⌝ }
-{
-    if edges < 2 {
-        return 0;
-    }
-    4096
-}
-
-// They stand in the first `room` places.
-fn hints_of(value_edges: &[f64], table: Table, room: usize) -> [u8; 4096]
-    requires { ⌜ room ≤ 4096 ⌝ }
-{
-    let mut hints = [0u8; 4096];
-    edge_table::fill_hints(value_edges, table, &mut hints[..room]);
-    hints
-}
-
 fn zero_state() -> [f64; 256]
     ensures { λ r. ⌜ r ≡ zeroState ⌝ }
 {
@@ -1077,14 +1058,14 @@ fn run_histograms(
 {
     let built = setup.edges;
     let distances = edge_table::table_of(built, list, 0.0);
-    let table = edge_table::table_of(edges, value_edges, 4094.0);
+    let table = edge_table::table_of(edges, value_edges, 4093.0);
     let tables = Tables {
         distances,
         edges,
         values: table,
     };
-    let hint_room = hint_room(value_edges.len());
-    let hints = hints_of(value_edges, table, hint_room);
+    let mut hints = [0u8; 4096];
+    edge_table::fill_hints(edges, value_edges, table, &mut hints);
     let mut values = [0.0; 64];
     let mut found = [0usize; 64];
     let mut state = zero_state();
@@ -1096,7 +1077,7 @@ fn run_histograms(
         tables,
         list,
         value_edges,
-        &hints[..hint_room],
+        &hints,
         width,
         a0,
         a1,
