@@ -11,6 +11,8 @@ use lib.ListN.{length, drop, drop-of-length-le, length-drop}
 use lib.Seq.{drop-cons}
 use lib.Ieee.{Float, nan, inf, fin, binary64, lt, le, eq, isNan, fits}
 use lib.Ieee.Scale.{finite}
+use lib.Ieee.Fits.{and-i, and-l, and-r}
+use lib.Ieee.Bits.{is-true}
 use borrow.Author.Tests.{lt-ltb, le-ltb, le-leb, lt-leb, leb-true, leb-false}
 use Rattle.definitions.specs.Lists.{at}
 use Rattle.definitions.specs.Floats.{notAfter}
@@ -84,6 +86,51 @@ module _ (es : List Float) where
         pub valid-accepted : increasing es ≡ true → Valid es Accepted
         unfolding bins
         valid-accepted b = rw (le-ltb 256 (length es - 1) (omega arith), le-ltb (length es) 2 k, a, b) (refl, refl)
+
+-- ---- increasing edges between finite ends
+above-finite : (x y : Float) (l : List Float) → T (finite x) → lt x y ≡ true → T (increasing (y ∷ l)) → T (finite (at (y ∷ l) (length l))) → T (finite y)
+unfolding lt
+above-finite nan y l p h i e = absurd p
+above-finite (inf s) y l p h i e = absurd p
+above-finite (fin s m e) nan l p h i q = absurd (subst T (sym h) tt)
+above-finite (fin s m e) (inf true) l p h i q = absurd (subst T (sym h) tt)
+above-finite (fin s m e) (inf false) [] p h i q = absurd q
+above-finite (fin s m e) (inf false) (nan ∷ l) p h i q = absurd i
+above-finite (fin s m e) (inf false) (inf t ∷ l) p h i q = absurd i
+above-finite (fin s m e) (inf false) (fin t n d ∷ l) p h i q = absurd i
+above-finite (fin s m e) (fin t n d) l p h i q = tt
+
+between-finite : (x : Float) (l : List Float) → T (finite x) → T (increasing (x ∷ l)) → T (finite (at (x ∷ l) (length l))) → T (allFinite (x ∷ l))
+between-finite x [] p i q = and-i (finite x) true p tt
+between-finite x (y ∷ l) p i q =
+    let h = and-l (lt x y) (increasing (y ∷ l)) i in
+    let j = and-r (lt x y) (increasing (y ∷ l)) i in
+    and-i (finite x) (allFinite (y ∷ l)) p (between-finite y l (above-finite x y l p (is-true (lt x y) h) j q) j q)
+
+one-finite : (es : List Float) (i : ℕ) → T (allFinite es) → i < length es → T (finite (at es i))
+one-finite [] i a h = absurd (omega arith)
+one-finite (x ∷ es) zero a h = and-l (finite x) (allFinite es) a
+one-finite (x ∷ es) (suc i) a h = one-finite es i (and-r (finite x) (allFinite es) a) (omega arith)
+
+same-truth : (a b : Bool) → (T a → T b) → (T b → T a) → a ≡ b
+same-truth true true f g = refl
+same-truth false false f g = refl
+same-truth true false f g = absurd (f tt)
+same-truth false true f g = absurd (g tt)
+
+-- r and s are the answers for the first edge and the last
+module _ (es : List Float) (h : 2 ≤ length es) (i : T (increasing es)) (r : Bool) (q : r ≡ finite (at es 0)) where
+  pub ends-first : r ≡ false → false ≡ allFinite es
+  ends-first e = same-truth false (allFinite es) (λ t. absurd t) (λ t. subst T (sym q ∙ e) (one-finite es 0 t (omega arith)))
+
+  pub ends-last : (s : Bool) → r ≡ true → s ≡ finite (at es (length es - 1)) → s ≡ allFinite es
+  ends-last s e p = p ∙ same-truth (finite (at es (length es - 1))) (allFinite es) (to es h i (subst T (sym (sym q ∙ e)) tt)) (λ t. one-finite es (length es - 1) t (omega arith))
+    where
+      to : (l : List Float) → 2 ≤ length l → T (increasing l) → T (finite (at l 0)) → T (finite (at l (length l - 1))) → T (allFinite l)
+      to [] k j p q = absurd (omega arith)
+      to (x ∷ l) k j p q =
+          let z : length (x ∷ l) - 1 ≡ length l = omega arith in
+          between-finite x l p j (subst (λ (n : ℕ). T (finite (at (x ∷ l) n))) z q)
 
 -- ---- the end tests
 abbrev Outside : List Float → Float → Bool

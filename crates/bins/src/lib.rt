@@ -2,7 +2,7 @@
 ghost use mathlib.Core.Path.{_≡_};
 ghost use mathlib.Core.Option.{none, some};
 ghost use mathlib.Core.Bool.{true, false, _||_};
-ghost use Prim.Native.Nat.{_-_};
+ghost use Prim.Native.Nat.{_-_, _≤_};
 ghost use lib.Dec.{T};
 ghost use lib.ListN.{length};
 ghost use lib.Ieee.{lt, le, isNan};
@@ -145,7 +145,18 @@ fn is_increasing(edges: &[f64]) -> bool
     true
 }
 
-// Whether a slice is irregular edges.
+// The same of increasing edges: those between finite ones are finite.
+fn has_finite_ends(edges: &[f64]) -> bool
+    requires { ⌜ 2 ≤ length (now edges) ⌝ ∗ ⌜ T (increasing (now edges)) ⌝ }
+    ensures { λ r. ⌜ r ≡ allFinite (now (edges .entry)) ⌝ }
+{
+    if floats::is_finite(edges[0]) {
+        return floats::is_finite(edges[edges.len() - 1]);
+    }
+    false
+}
+
+// Whether a slice is irregular edges. Increasing edges, the usual ones, are read once.
 pub fn validate_bin_edges(edges: &[f64]) -> Validated
     ensures { λ r. ⌜ validNumber r ≡ refusal (edgesCallRules (irregular (now (edges .entry)))) ⌝ }
     ensures { λ r. ⌜ validAccepted r ≡ ifAccepted (edgesCallRules (irregular (now (edges .entry)))) true false ⌝ }
@@ -156,10 +167,13 @@ pub fn validate_bin_edges(edges: &[f64]) -> Validated
     if edges.len() < 2 {
         return Validated::Refused(12);
     }
-    if all_finite(edges) {
-        if is_increasing(edges) {
+    if is_increasing(edges) {
+        if has_finite_ends(edges) {
             return Validated::Accepted;
         }
+        return Validated::Refused(10);
+    }
+    if all_finite(edges) {
         return Validated::Refused(13);
     }
     Validated::Refused(10)
