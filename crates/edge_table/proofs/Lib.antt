@@ -3,3 +3,4 @@ pub mod Lookup
 pub mod Order
 pub mod Batch
 pub mod Cuts
+pub mod Examples
