@@ -107,10 +107,10 @@ between-finite x (y ∷ l) p i q =
     let j = and-r (lt x y) (increasing (y ∷ l)) i in
     and-i (finite x) (allFinite (y ∷ l)) p (between-finite y l (above-finite x y l p (is-true (lt x y) h) j q) j q)
 
-one-finite : (es : List Float) (i : ℕ) → T (allFinite es) → i < length es → T (finite (at es i))
-one-finite [] i a h = absurd (omega arith)
-one-finite (x ∷ es) zero a h = and-l (finite x) (allFinite es) a
-one-finite (x ∷ es) (suc i) a h = one-finite es i (and-r (finite x) (allFinite es) a) (omega arith)
+pub finite-at : (es : List Float) (i : ℕ) → T (allFinite es) → i < length es → T (finite (at es i))
+finite-at [] i a h = absurd (omega arith)
+finite-at (x ∷ es) zero a h = and-l (finite x) (allFinite es) a
+finite-at (x ∷ es) (suc i) a h = finite-at es i (and-r (finite x) (allFinite es) a) (omega arith)
 
 same-truth : (a b : Bool) → (T a → T b) → (T b → T a) → a ≡ b
 same-truth true true f g = refl
@@ -121,10 +121,10 @@ same-truth false true f g = absurd (g tt)
 -- r and s are the answers for the first edge and the last
 module _ (es : List Float) (h : 2 ≤ length es) (i : T (increasing es)) (r : Bool) (q : r ≡ finite (at es 0)) where
   pub ends-first : r ≡ false → false ≡ allFinite es
-  ends-first e = same-truth false (allFinite es) (λ t. absurd t) (λ t. subst T (sym q ∙ e) (one-finite es 0 t (omega arith)))
+  ends-first e = same-truth false (allFinite es) (λ t. absurd t) (λ t. subst T (sym q ∙ e) (finite-at es 0 t (omega arith)))
 
   pub ends-last : (s : Bool) → r ≡ true → s ≡ finite (at es (length es - 1)) → s ≡ allFinite es
-  ends-last s e p = p ∙ same-truth (finite (at es (length es - 1))) (allFinite es) (to es h i (subst T (sym (sym q ∙ e)) tt)) (λ t. one-finite es (length es - 1) t (omega arith))
+  ends-last s e p = p ∙ same-truth (finite (at es (length es - 1))) (allFinite es) (to es h i (subst T (sym (sym q ∙ e)) tt)) (λ t. finite-at es (length es - 1) t (omega arith))
     where
       to : (l : List Float) → 2 ≤ length l → T (increasing l) → T (finite (at l 0)) → T (finite (at l (length l - 1))) → T (allFinite l)
       to [] k j p q = absurd (omega arith)

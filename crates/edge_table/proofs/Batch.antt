@@ -13,14 +13,13 @@ use lib.ListN.{length, getD, set, take, drop, drop-of-length-le, length-map}
 use lib.Seq.{drop-cons, append-snoc, take-suc-set, take-all, drop-set-lt}
 use lib.Ieee.{Float, lt, le, eq, below, level, isNan, nan, inf, fin, up, down, binary64, fits}
 use lib.Ieee.Scale.{finite}
-use lib.Ieee.Fits.{and-l, and-r}
 use lib.Ieee.Bits.{is-true}
 use borrow.Author.Tests.{lt-ltb, le-ltb, le-leb, lt-leb, eq-eqb, ne-eqb, ltb-true, eqb-true}
 use Rattle.definitions.specs.Lists.{at}
-use Rattle.definitions.specs.Rules.{allFinite}
 use Rattle.floats.specs.Order.{orderKey}
 use Rattle.floats.proofs.Keys.{key-mono, key-injective, sorted}
 use Rattle.bins.specs.declared.RegularBinEdges.{RegularBinEdges}
+use Rattle.bins.proofs.Irregular.{finite-at}
 use Rattle.reducer.specs.declared.BuiltEdges.{BuiltEdges}
 use Rattle.reducer.specs.declared.BuiltEdges.the-variants.{Regular, Irregular}
 use Rattle.reducer.specs.Consume.{builtBin}
@@ -180,11 +179,6 @@ unfolding isNan
 finite-number nan h = absurd h
 finite-number (inf s) h = absurd h
 finite-number (fin s m e) h = refl
-
-finite-at : (es : List Float) (i : ℕ) → T (allFinite es) → i < length es → T (finite (at es i))
-finite-at [] i a h = absurd (omega arith)
-finite-at (x ∷ es) zero a h = and-l (finite x) (allFinite es) a
-finite-at (x ∷ es) (suc i) a h = finite-at es i (and-r (finite x) (allFinite es) a) (omega arith)
 
 key-less : (x y : Float) → T (fits binary64 x) → T (fits binary64 y) → T (finite x) → T (finite y) → lt x y ≡ true → orderKey x < orderKey y
 key-less x y f g a b h =

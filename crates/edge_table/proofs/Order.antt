@@ -10,6 +10,7 @@ use lib.Ieee.{Float, lt, le, eq, below, level, nan, inf, fin, up, down}
 use lib.Ieee.Scale.{finite}
 use lib.Ieee.Fits.{down-pos}
 use borrow.Author.Tests.{lt-ltb, le-ltb, ne-eqb, ltb-true, ltb-false, eqb-true}
+use Rattle.floats.proofs.Floor.{not-above}
 
 pub lt-self : (x : Float) → lt x x ≡ false
 unfolding lt
@@ -88,14 +89,6 @@ module _ (M N K x y z : ℕ) (p : 0 < x) where
       (lt-of-lt-of-le (mul-lt-mul-of-pos-right k p) (le-trans (le-of-eq (mul-right-comm N z x)) (le-trans (mul-le-mul-right z h) (le-of-eq (mul-right-comm M y z))))))
 
 module _ (a b : ℕ) where
-  le-plus : (below false a false b || level false a false b) ≡ true → a ≤ b
-  le-plus = go (ltb a b) (eqb a b) refl refl
-    where
-      go : (p q : Bool) → ltb a b ≡ p → eqb a b ≡ q → (p || (q && (true || eqb a 0))) ≡ true → a ≤ b
-      go true q e f h = le-of-lt (ltb-true a b e)
-      go false true e f h = le-of-eq (eqb-true a b f)
-      go false false e f h = absurd (true≢false (sym h))
-
   le-minus : (below true a true b || level true a true b) ≡ true → b ≤ a
   le-minus = go (ltb b a) (eqb a b) refl refl
     where
@@ -138,7 +131,7 @@ le-lt (fin s m e) (fin t n d) (fin u k f) p q r h l = go s t u h l
     third = other-pos K (down d) (down e) (down-pos e)
 
     go : (s t u : Bool) → (below s (M * down d) t (N * down e) || level s (M * down d) t (N * down e)) ≡ true → below t (N * down f) u (K * down d) ≡ true → below s (M * down f) u (K * down e) ≡ true
-    go false false false h l = lt-ltb _ _ (rise M N K (down e) (down d) (down f) (down-pos e) (le-plus (M * down d) (N * down e) h) (ltb-true _ _ l))
+    go false false false h l = lt-ltb _ _ (rise M N K (down e) (down d) (down f) (down-pos e) (not-above (M * down d) (N * down e) _ h) (ltb-true _ _ l))
     go false false true h l = absurd (true≢false (sym l))
     go true false true h l = absurd (true≢false (sym l))
     go true true true h l = lt-ltb _ _ (fall M N K (down e) (down d) (down f) (down-pos e) (le-minus (M * down d) (N * down e) h) (ltb-true _ _ l))

@@ -22,7 +22,7 @@ unfolding ofInt
 whole-value n h = round-whole binary64 false n (omega arith)
 
 -- ---- what the two tests say, of two numbers over a common denominator
-not-above : (a b : ℕ) (t : Bool) → (ltb a b || (eqb a b && t)) ≡ true → a ≤ b
+pub not-above : (a b : ℕ) (t : Bool) → (ltb a b || (eqb a b && t)) ≡ true → a ≤ b
 not-above a b t h = go (ltb a b) (eqb a b) refl refl h
   where
     go : (l e : Bool) → ltb a b ≡ l → eqb a b ≡ e → (l || (e && t)) ≡ true → a ≤ b

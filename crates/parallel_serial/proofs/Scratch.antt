@@ -7,7 +7,7 @@ use native.Mathlib.Nat.{not-suc-le-zero, le-of-suc-le-suc}
 use native.Mathlib.Omega.{arith}
 use lib.Dec.{leb, eqb}
 use lib.ListN.{length, take, drop, replicate, length-replicate}
-use lib.Seq.{length-take-le}
+use lib.Seq.{length-take-le, take-take}
 use lib.Ieee.{Float, binary64, add}
 use borrow.Author.Tests.{le-leb, lt-leb, eq-eqb, ne-eqb}
 use Rattle.definitions.specs.Lists.{at, range, upto, overwritten}
@@ -21,6 +21,10 @@ use Rattle.state.specs.declared.Outcome.the-variants.{Done, Refused}
 use Rattle.state.specs.Readings.{numberOf}
 use Rattle.state.proofs.Packs.{merge-done}
 use Rattle.parallel_serial.specs.Drive.{zeroPack, addedScratch}
+
+-- a small scratch holds the same zeros as a large one
+pub part-taken : (n m : ℕ) (z : List Float) → n ≤ m → z ≡ take m zeroPack → take n z ≡ take n zeroPack
+part-taken n m z h e = ap (take n) e ∙ take-take n m zeroPack h
 
 -- ---- the part that is lent
 take-replicate : (n k : ℕ) (x : Float) → k ≤ n → take k (replicate n x) ≡ replicate k x

@@ -15,6 +15,7 @@ ghost use Rattle.definitions.specs.Bins.{bins};
 ghost use Rattle.definitions.specs.Reducer.{stateKind, kindSize};
 ghost use Rattle.definitions.specs.Rules.{rule, refusal, overState, overPack, edgesCallRules, kindRules};
 ghost use Rattle.reducer.specs.Readings.{edgesOf, kindOf};
+ghost use lib.ListN.{take};
 ghost use Rattle.parallel_serial.specs.Drive.{zeroPack, addedScratch, builtEdges, builtReducer, overNumbers, shapeRules, runNumber};
 
 // The pack's shape as the caller states it, and the team.
@@ -211,6 +212,13 @@ pub fn zeros() -> [f64; 4096]
     ensures { λ r. ⌜ r ≡ zeroPack ⌝ }
 {
     [0.0; 4096]
+}
+
+// For runs that use no more: zeroing all takes longer than a small run.
+pub fn zeros_512() -> [f64; 512]
+    ensures { λ r. ⌜ r ≡ take 512 zeroPack ⌝ }
+{
+    [0.0; 512]
 }
 
 // Scratch is added to the front of the caller's pack, caller's number first; nothing where it is longer.

@@ -6,7 +6,7 @@ use mathlib.Core.List.{List, [], _++_}
 use Prim.Native.Nat.{ℕ, _*_, _≤_}
 use native.Mathlib.Omega.{arith}
 use lib.ListN.{length, take, drop, length-replicate}
-use lib.Seq.{length-take-le, length-front, take-take, take-append-seam}
+use lib.Seq.{length-take-le, length-front, take-append-seam}
 use lib.Dec.{T}
 use lib.Ieee.{Float, binary64, fits}
 use mir.Syntax.{w64}
@@ -95,10 +95,6 @@ module _ (auto : Bool) (width : blocks.CellWidth) (a b : CartesianBlock) (edges 
 -- ---- the parts that are lent
 pub used-fits : (n : ℕ) → n ≤ 4096 → Fits w64 n
 used-fits n h = record { fits = omega arith }
-
--- a small scratch holds the same zeros as a large one
-pub part-taken : (n m : ℕ) (z : List Float) → n ≤ m → z ≡ take m zeroPack → take n z ≡ take n zeroPack
-part-taken n m z h e = ap (take n) e ∙ take-take n m zeroPack h
 
 module _ (n : ℕ) (z : List Float) (h : n ≤ 4096) (e : z ≡ zeroPack) where
   pub used-part : n ≤ length z

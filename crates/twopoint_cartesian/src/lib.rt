@@ -781,13 +781,6 @@ fn fill_means(
     }
 }
 
-// A mean has at most 256 states of two numbers.
-fn zeros_512() -> [f64; 512]
-    ensures { λ r. ⌜ r ≡ take 512 zeroPack ⌝ }
-{
-    [0.0; 512]
-}
-
 // A mean's run, in a scratch of its own, added to the caller's pack.
 fn run_means(
     auto: bool,
@@ -814,7 +807,7 @@ fn run_means(
     let edges = setup.edges;
     let distances = edge_table::table_of(edges, list, 0.0);
     let used = setup.n_states * 2;
-    let mut scratch = zeros_512();
+    let mut scratch = parallel_serial::zeros_512();
     fill_means(
         auto,
         setup,

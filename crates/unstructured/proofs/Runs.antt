@@ -6,7 +6,6 @@ use mathlib.Core.List.{List, [], _∷_}
 use Prim.Native.Nat.{ℕ, _+_, _*_, _<_, _≤_}
 use native.Mathlib.Omega.{arith}
 use lib.ListN.{length, take, replicate, length-replicate}
-use lib.Seq.{take-take}
 use lib.Dec.{T}
 use lib.Ieee.{Float, binary64, fits}
 use mir.Syntax.{w64}
@@ -160,10 +159,6 @@ usable-run edges list kind valueEdges shape len d f g setup eb er =
       edges = subst (λ (e : BuiltEdges). Usable e list) (sym (eb ∙ built-made edges list (d .edges))) (usable-made list f edges (d .edges));
       values = subst (λ (r : Reducer). UsableValues r valueEdges) (sym (er ∙ reducer-made kind valueEdges (d .values))) (usable-values-made valueEdges g kind (d .values));
     }
-
--- a small scratch holds the same zeros as a large one
-pub part-taken : (n m : ℕ) (z : List Float) → n ≤ m → z ≡ take m zeroPack → take n z ≡ take n zeroPack
-part-taken n m z h e = ap (take n) e ∙ take-take n m zeroPack h
 
 pub all-taken : (n : ℕ) (z : List Float) → z ≡ zeroPack → take n z ≡ take n zeroPack
 all-taken n z e = ap (take n) e

@@ -1062,12 +1062,6 @@ fn zeros_64() -> [f64; 64]
     [0.0; 64]
 }
 
-fn zeros_512() -> [f64; 512]
-    ensures { λ r. ⌜ r ≡ take 512 zeroPack ⌝ }
-{
-    [0.0; 512]
-}
-
 fn run_64(
     auto: bool,
     setup: Setup,
@@ -1143,7 +1137,7 @@ fn run_512(
         (pointsIn (now («a_positions» .entry)) (now («a_values» .entry)) (now («a_weights» .entry)) «a_stride» «a_n»)
         (pointsIn (now («b_positions» .entry)) (now («b_values» .entry)) (now («b_weights» .entry)) «b_stride» «b_n») (take used zeroPack)) ⌝ }
 {
-    let mut scratch = zeros_512();
+    let mut scratch = parallel_serial::zeros_512();
     run_in(
         auto,
         setup,

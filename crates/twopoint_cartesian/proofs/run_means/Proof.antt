@@ -4,7 +4,8 @@ use native.Mathlib.Omega.{arith}
 use lib.Seq.{length-take-le}
 use Rattle.edge_table.proofs.Lookup.{tabled}
 use Rattle.twopoint_cartesian.proofs.Walk.{roomy-same}
-use Rattle.twopoint_cartesian.proofs.Runs.{used-fits, small-part, small-lent, back-part, part-taken, added-filled}
+use Rattle.parallel_serial.proofs.Scratch.{part-taken}
+use Rattle.twopoint_cartesian.proofs.Runs.{used-fits, small-part, small-lent, back-part, added-filled}
 use borrow.Author.Needs.{needs}
 use Rattle.twopoint_cartesian.proofs.run_means.Statement.{statement}
 use Rattle.twopoint_cartesian.proofs.run_means.Tie as tie
@@ -13,7 +14,7 @@ use Rattle.twopoint_cartesian.proofs.run_means.Lts as lts
 use Rattle.edge_table.proofs.table_of.Reads as table-of-reads
 use Rattle.parallel_serial.proofs.add_scratch.Reads as add-scratch-reads
 use Rattle.twopoint_cartesian.proofs.fill_means.Reads as fill-means-reads
-use Rattle.twopoint_cartesian.proofs.zeros_512.Reads as zeros-512-reads
+use Rattle.parallel_serial.proofs.zeros_512.Reads as zeros-512-reads
 
 -- src/lib.rt:815:9
 table-of-requires : tie.Need-table-of-requires

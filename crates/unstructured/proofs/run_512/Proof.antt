@@ -1,12 +1,13 @@
 use lib.Seq.{length-take-le}
 use mathlib.Core.Path.{sym}
-use Rattle.unstructured.proofs.Runs.{from-zeros, part-taken}
+use Rattle.parallel_serial.proofs.Scratch.{part-taken}
+use Rattle.unstructured.proofs.Runs.{from-zeros}
 use borrow.Author.Needs.{needs}
 use Rattle.unstructured.proofs.run_512.Statement.{statement}
 use Rattle.unstructured.proofs.run_512.Tie as tie
 use Rattle.unstructured.proofs.run_512.Reads as reads
 use Rattle.unstructured.proofs.run_512.Lts as lts
-use Rattle.unstructured.proofs.zeros_512.Reads as zeros-512-reads
+use Rattle.parallel_serial.proofs.zeros_512.Reads as zeros-512-reads
 use Rattle.unstructured.proofs.run_in.Reads as run-in-reads
 
 -- src/lib.rt:1020:23

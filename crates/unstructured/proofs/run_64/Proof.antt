@@ -1,6 +1,7 @@
 use lib.Seq.{length-take-le}
 use mathlib.Core.Path.{sym}
-use Rattle.unstructured.proofs.Runs.{from-zeros, part-taken}
+use Rattle.parallel_serial.proofs.Scratch.{part-taken}
+use Rattle.unstructured.proofs.Runs.{from-zeros}
 use borrow.Author.Needs.{needs}
 use Rattle.unstructured.proofs.run_64.Statement.{statement}
 use Rattle.unstructured.proofs.run_64.Tie as tie
