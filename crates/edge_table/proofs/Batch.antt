@@ -11,20 +11,25 @@ use native.Mathlib.Omega.{arith}
 use lib.Dec.{ltb, eqb, T}
 use lib.ListN.{length, getD, set, take, drop, drop-of-length-le, length-map}
 use lib.Seq.{drop-cons, append-snoc, take-suc-set, take-all, drop-set-lt}
-use lib.Ieee.{Float, lt, le, eq, below, level, isNan, nan, inf, fin, up, down, binary64, fits}
+use lib.Ieee.{Float, lt, le, eq, level, isNan, nan, inf, fin, up, down, binary64, fits}
 use lib.Ieee.Scale.{finite}
 use lib.Ieee.Bits.{is-true}
 use borrow.Author.Tests.{lt-ltb, le-ltb, le-leb, lt-leb, eq-eqb, ne-eqb, ltb-true, eqb-true}
 use Rattle.definitions.specs.Lists.{at}
+use Rattle.definitions.specs.Floats.{asUsize}
+use Rattle.definitions.specs.Bins as definitions
+use Rattle.definitions.specs.Bins.{below}
 use Rattle.floats.specs.Order.{orderKey}
 use Rattle.floats.proofs.Keys.{key-mono, key-injective, sorted}
 use Rattle.bins.specs.declared.RegularBinEdges.{RegularBinEdges}
 use Rattle.bins.proofs.Irregular.{finite-at}
 use Rattle.reducer.specs.declared.BuiltEdges.{BuiltEdges}
 use Rattle.reducer.specs.declared.BuiltEdges.the-variants.{Regular, Irregular}
-use Rattle.reducer.specs.Consume.{builtBin}
+use Rattle.reducer.specs.Consume as consume
+use Rattle.reducer.specs.Consume.{builtBins, builtFind, builtBin}
+use Rattle.reducer.proofs.Placewise.{below-again}
 use Rattle.edge_table.specs.declared.Table.{Table}
-use Rattle.edge_table.specs.Table.{placeOf, bit, numberOr, between, outsideOf, holds, stepUp, climb, located, locatedBin, hintFor, guessedBin, nearHint, hintedBin, batchBin, foundOf}
+use Rattle.edge_table.specs.Table.{placeOf, bit, numberOr, between, outsideOf, holds, stepUp, climb, located, locatedBin, hintFor, guessedBin, nearHint, hintedBin, quotient, isPast, numberFor, batchNumber, foundOf, numberIn}
 use Rattle.edge_table.specs.Tabled.{Searchable, Tabled}
 use Rattle.edge_table.proofs.Order.{lt-self, lt-finite, lt-not, lt-le, le-lt}
 use Rattle.edge_table.proofs.Lookup.{outside, none-outside, and-true, enclosed-bin, tested, held-bin, located-found}
@@ -155,23 +160,23 @@ module _ {B : Type 0} (f : Float → B) (x : List Float) (l : List B) (q : ℕ) 
   map-done h = sym (inv ∙ (λ i. take-all q l (omega arith) i ++ map f (drop-of-length-le x h i)) ∙ append-nil l)
 
 -- ---- a batch
-module _ (edges : BuiltEdges) (list : List Float) (hints : List ℕ) (table : Table) (x : List Float) (found : List ℕ) where
-  pub found-unlike : (length found ≡ length x → ⊥) → found ≡ foundOf edges list hints table x found
+module _ (inside : Bool) (edges : BuiltEdges) (list : List Float) (hints : List ℕ) (table : Table) (x : List Float) (found : List ℕ) where
+  pub found-unlike : (length found ≡ length x → ⊥) → found ≡ foundOf inside edges list hints table x found
   unfolding foundOf
   found-unlike h = rw (ne-eqb (length found) (length x) h)
 
   module _ (h : length found ≡ length x) where
-    found-map : foundOf edges list hints table x found ≡ map (λ v. numberOr (batchBin edges list hints table v)) x
+    found-map : foundOf inside edges list hints table x found ≡ map (batchNumber inside edges list hints table) x
     unfolding foundOf
     found-map = rw (eq-eqb (length found) (length x) h)
 
-    pub found-irregular : (l : List ℕ) → edges ≡ Irregular → l ≡ map (λ v. numberOr (hintedBin list hints table v)) x → l ≡ foundOf edges list hints table x found
-    unfolding batchBin
-    found-irregular l t p = p ∙ (λ i. map (λ v. numberOr (batchBin (sym t i) list hints table v)) x) ∙ sym found-map
+    pub found-irregular : (l : List ℕ) → edges ≡ Irregular → l ≡ map (λ v. numberOr (hintedBin list hints table v)) x → l ≡ foundOf inside edges list hints table x found
+    unfolding batchNumber
+    found-irregular l t p = p ∙ (λ i. map (batchNumber inside (sym t i) list hints table) x) ∙ sym found-map
 
-    pub found-regular : (e : RegularBinEdges) (l : List ℕ) → edges ≡ Regular e → l ≡ map (λ v. numberOr (builtBin (Regular e) list v)) x → l ≡ foundOf edges list hints table x found
-    unfolding batchBin
-    found-regular e l t p = p ∙ (λ i. map (λ v. numberOr (batchBin (sym t i) list hints table v)) x) ∙ sym found-map
+    pub found-regular : (e : RegularBinEdges) (l : List ℕ) → edges ≡ Regular e → l ≡ map (numberFor inside e) x → l ≡ foundOf inside edges list hints table x found
+    unfolding batchNumber
+    found-regular e l t p = p ∙ (λ i. map (batchNumber inside (sym t i) list hints table) x) ∙ sym found-map
 
 -- ---- the edges' own bins
 finite-number : (x : Float) → T (finite x) → isNan x ≡ false
@@ -236,16 +241,53 @@ module _ (es : List Float) (hints : List ℕ) (table : Table) where
       go g true v = none-outside es x (sym v)
       go g false v = tested (holds es x g) g _ _ (held-bin es (t .usable) x f (λ n. sym v) g) (located-found es (t .usable) x f (λ n. sym v))
 
-  batch-bin : (edges : BuiltEdges) → Tabled edges es table → (x : Float) → fits binary64 x ≡ true → batchBin edges es hints table x ≡ builtBin edges es x
-  unfolding batchBin
-  batch-bin (Regular e) t x f = refl
-  batch-bin Irregular t x f = hinted-found x t f
+  module _ (inside : Bool) (edges : BuiltEdges) (t : Tabled edges es table) where
+    batch-number : (x : Float) → fits binary64 x ≡ true → batchNumber inside edges es hints table x ≡ numberIn inside edges es x
+    unfolding batchNumber
+    batch-number x f = go edges t
+      where
+        go : (d : BuiltEdges) → Tabled d es table → batchNumber inside d es hints table x ≡ numberIn inside d es x
+        go (Regular e) u = refl
+        go Irregular u = ap numberOr (hinted-found x u f)
 
-  module _ (edges : BuiltEdges) (t : Tabled edges es table) where
-    batch-map : (x : List Float) → ((i : ℕ) → T (fits binary64 (at x i))) → map (λ v. numberOr (batchBin edges es hints table v)) x ≡ map (λ v. numberOr (builtBin edges es v)) x
+    batch-map : (x : List Float) → ((i : ℕ) → T (fits binary64 (at x i))) → map (batchNumber inside edges es hints table) x ≡ map (numberIn inside edges es) x
     batch-map [] f = refl
-    batch-map (v ∷ x) f = λ i. numberOr (batch-bin edges t v (is-true (fits binary64 v) (f 0)) i) ∷ batch-map x (λ j. f (suc j)) i
+    batch-map (v ∷ x) f = λ i. batch-number v (is-true (fits binary64 v) (f 0)) i ∷ batch-map x (λ j. f (suc j)) i
 
-    -- a table of accepted edges finds the edges' own bins
-    pub found-bins : (x : List Float) (found : List ℕ) → ((i : ℕ) → T (fits binary64 (at x i))) → length found ≡ length x → foundOf edges es hints table x found ≡ map (λ v. numberOr (builtBin edges es v)) x
-    found-bins x found f h = found-map edges es hints table x found h ∙ batch-map x f
+    -- a table of accepted edges finds the edges' own numbers
+    pub found-bins : (x : List Float) (found : List ℕ) → ((i : ℕ) → T (fits binary64 (at x i))) → length found ≡ length x → foundOf inside edges es hints table x found ≡ map (numberIn inside edges es) x
+    found-bins x found f h = found-map inside edges es hints table x found h ∙ batch-map x f
+
+-- ---- which are their bins
+-- what a lookup returns, of regular edges before an index past the bins is dropped
+abbrev pub indexIn : BuiltEdges → List Float → Float → Option ℕ
+indexIn (Regular e) es x = builtFind (Regular e) es x
+indexIn Irregular es x = builtBin Irregular es x
+
+pub index-number : (edges : BuiltEdges) (es : List Float) (x : Float) → numberIn false edges es x ≡ numberOr (indexIn edges es x)
+unfolding numberFor isPast definitions.regularIndex
+index-number (Regular e) es x = go (lt x (e .min) || le (e .max) x)
+  where
+    go : (b : Bool) → cond b 4096 (asUsize (quotient e x)) ≡ numberOr (cond b none (some (asUsize (quotient e x))))
+    go false = refl
+    go true = refl
+index-number Irregular es x = refl
+
+pub index-bin : (edges : BuiltEdges) (es : List Float) (x : Float) → below (builtBins edges (length es)) (indexIn edges es x) ≡ builtBin edges es x
+unfolding consume.builtBin
+index-bin (Regular e) es x = refl
+index-bin Irregular es x = below-again (length es - 1) (builtFind Irregular es x)
+
+-- of a value that is past no end
+pub inside-bin : (edges : BuiltEdges) (es : List Float) (table : Table) → Tabled edges es table → (x : Float) → lt x (table .first) ≡ false → le (table .last) x ≡ false
+    → below (builtBins edges (length es)) (some (numberIn true edges es x)) ≡ builtBin edges es x
+unfolding numberFor isPast definitions.regularIndex consume.builtBin
+inside-bin (Regular e) es table t x a b =
+    let c : lt x (e .min) ≡ false = ap (lt x) (sym (t .ends .0)) ∙ a in
+    let d : le (e .max) x ≡ false = ap (λ (y : Float). le y x) (sym (t .ends .1)) ∙ b in
+    sym (rw (c, d))
+inside-bin Irregular es table t x a b = go (builtBin Irregular es x) refl
+  where
+    go : (o : Option ℕ) → builtBin Irregular es x ≡ o → below (length es - 1) (some (numberOr o)) ≡ o
+    go none e = rw (le-ltb 4096 (length es - 1) (omega (arith, t .usable .few)))
+    go (some i) e = sym (ap (below (length es - 1)) e) ∙ below-again (length es - 1) (builtFind Irregular es x) ∙ e

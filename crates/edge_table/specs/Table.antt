@@ -2,12 +2,13 @@
 use mathlib.Core.Option.{Option, none, some}
 use mathlib.Core.List.{List, map}
 use mathlib.Core.Bool.{Bool, true, false, cond, not, _&&_, _||_}
-use Prim.Native.Nat.{ℕ, zero, suc, _+_, _-_, _*_, _/_, _%_, _^_}
+use Prim.Native.Nat.{ℕ, zero, suc, _+_, _-_, _*_, _/_, _%_, _^_, _<_, _≤_}
 use lib.Dec.{leb, ltb, eqb}
 use lib.ListN.{length, getD, set}
 use lib.IntN.{pos}
 use lib.Ieee.{Float, binary64, add, sub, mul, div, lt, le, isNan, ofInt, ofBits, toBits}
 use Rattle.definitions.specs.Lists.{at}
+use Rattle.definitions.specs.Floats.{asUsize}
 use Rattle.floats.specs.Order.{orderKey}
 use Rattle.bins.specs.declared.RegularBinEdges.{RegularBinEdges}
 use Rattle.reducer.specs.declared.BuiltEdges.{BuiltEdges}
@@ -99,22 +100,35 @@ abbrev pub numberOr : Option ℕ → ℕ
 numberOr none = 4096
 numberOr (some b) = b
 
+-- ---- regular edges: the quotient's whole number
 abbrev pub quotient : RegularBinEdges → Float → Float
 quotient e x = div binary64 (sub binary64 x (e .min)) (e .«bin_size»)
 
--- a guess of the whole number of q: 2^51 added rounds to a half, and the bits above the last then hold the whole number
+-- past an end, unless no value is
+unfoldable pub isPast : Bool → RegularBinEdges → Float → Bool
+isPast inside e x = not inside && (lt x (e .min) || le (e .max) x)
+
+-- the quotient without its fraction; a number past every bin where the value is past an end
+unfoldable pub numberFor : Bool → RegularBinEdges → Float → ℕ
+numberFor inside e x = cond (isPast inside e x) 4096 (asUsize (quotient e x))
+
+-- a guess of the whole number of q: 2^31 added leaves 21 bits of the fraction, and the bits above them hold the whole number
 unfoldable pub guessOf : Float → ℕ
-guessOf q = toBits binary64 (add binary64 (add binary64 q (ofBits binary64 0x40af_ff80_0000_0000)) (ofBits binary64 0x4320_0000_0000_0000)) / 2 % 4096
+guessOf q = toBits binary64 (add binary64 q (ofBits binary64 0x41e0_0000_0000_0000)) / 2097152 % 4096
 
--- h is the whole number of the quotient q of x, which is inside the ends
-unfoldable pub isSure : RegularBinEdges → Float → Float → ℕ → Bool
-isSure e x q h =
-    le (ofInt binary64 (pos h)) q && (lt q (add binary64 (ofInt binary64 (pos h)) (ofBits binary64 0x3ff0_0000_0000_0000)) && (not (lt x (e .min)) && not (le (e .max) x)))
+-- h is the whole number of q
+unfoldable pub isSure : Float → ℕ → Bool
+isSure q h = le (ofInt binary64 (pos h)) q && lt q (add binary64 (ofInt binary64 (pos h)) (ofBits binary64 0x3ff0_0000_0000_0000))
 
--- the guess where it is right, else a mark past every number of bins
-unfoldable pub sureBin : RegularBinEdges → Float → ℕ
-sureBin e x = cond (isSure e x (quotient e x) (guessOf (quotient e x))) (guessOf (quotient e x)) (2 ^ 64 - 1)
+-- the guess where it is right and the value not past an end, else a mark past every number of bins
+unfoldable pub sureNumber : Bool → RegularBinEdges → Float → ℕ
+sureNumber inside e x = cond (isSure (quotient e x) (guessOf (quotient e x))) (cond (isPast inside e x) (2 ^ 64 - 1) (guessOf (quotient e x))) (2 ^ 64 - 1)
 
+-- m is at least each
+abbrev pub AtMost : ℕ → List ℕ → Type 0
+AtMost m l = (i : ℕ) → i < length l → getD l i 0 ≤ m
+
+-- ---- irregular edges, by hints
 -- strictly between the edges of bin h
 unfoldable pub between : List Float → Float → ℕ → Bool
 between list x h = ltb h (length list - 1) && (lt (at list h) x && lt x (at list (h + 1)))
@@ -134,13 +148,19 @@ nearHint list x h = cond (lt x (at list h)) (h - 1) (h + stepUp list x (h + 1) 1
 unfoldable pub hintedBin : List Float → List ℕ → Table → Float → Option ℕ
 hintedBin list hints table x = guessedBin list table x (nearHint list x (hintFor list hints table x))
 
-unfoldable pub batchBin : BuiltEdges → List Float → List ℕ → Table → Float → Option ℕ
-batchBin (Regular e) list hints table x = builtBin (Regular e) list x
-batchBin Irregular list hints table x = hintedBin list hints table x
+-- a value's number in a batch; of regular edges it may also be an index past the bins
+unfoldable pub batchNumber : Bool → BuiltEdges → List Float → List ℕ → Table → Float → ℕ
+batchNumber inside (Regular e) list hints table x = numberFor inside e x
+batchNumber inside Irregular list hints table x = numberOr (hintedBin list hints table x)
 
--- the bin of each value; as they were where the lengths differ
-unfoldable pub foundOf : BuiltEdges → List Float → List ℕ → Table → List Float → List ℕ → List ℕ
-foundOf edges list hints table x found = cond (eqb (length found) (length x)) (map (λ v. numberOr (batchBin edges list hints table v)) x) found
+-- each value's number; as they were where the lengths differ
+unfoldable pub foundOf : Bool → BuiltEdges → List Float → List ℕ → Table → List Float → List ℕ → List ℕ
+foundOf inside edges list hints table x found = cond (eqb (length found) (length x)) (map (batchNumber inside edges list hints table) x) found
+
+-- the same by the edges alone
+abbrev pub numberIn : Bool → BuiltEdges → List Float → Float → ℕ
+numberIn inside (Regular e) list x = numberFor inside e x
+numberIn inside Irregular list x = numberOr (builtBin Irregular list x)
 
 -- ---- value edges, which a histogram has
 abbrev pub noTable : Table

@@ -10,9 +10,7 @@ ghost use lib.ListN.{length, getD};
 ghost use Rattle.definitions.specs.Lists.{at};
 ghost use Rattle.floats.specs.Order.{orderKey};
 ghost use Rattle.bins.specs.Answers.{indexOf};
-ghost use Rattle.reducer.specs.declared.BuiltEdges.the-variants.{Regular};
-ghost use Rattle.reducer.specs.Consume.{builtBin};
-ghost use Rattle.edge_table.specs.Table.{tableOf, placeOf, edgePlace, endOf, spread, binHinted, hintsOf, hintsFor, outsideOf, edgeBin, tableBin, noTable, valueTableOf, valueHintsFor, numberOr, guessOf, isSure, sureBin, between, holds, stepUp, climb, located, locatedBin, hintFor, nearHint, hintedBin, foundOf};
+ghost use Rattle.edge_table.specs.Table.{tableOf, placeOf, edgePlace, endOf, spread, binHinted, hintsOf, hintsFor, outsideOf, edgeBin, tableBin, noTable, valueTableOf, valueHintsFor, numberOr, guessOf, isSure, isPast, numberFor, sureNumber, AtMost, between, holds, stepUp, climb, located, locatedBin, hintFor, nearHint, hintedBin, foundOf};
 
 // Ends of the edges; a value's place of hints is scale times it plus offset.
 pub struct Table {
@@ -328,72 +326,109 @@ fn hinted_bins(list: &[f64], hints: &[u8], table: Table, x: &[f64], found: &mut 
     }
 }
 
-// Adding 2^51 rounds to a half; the bits above the last then hold the whole number.
+// Adding 2^31 leaves 21 bits of the fraction; the bits above them hold the whole number.
 fn guess_of(q: f64) -> usize
     ensures { λ r. ⌜ (r ≡ guessOf q) × (r < 4096) ⌝ }
 {
-    let z = (q + 4095.75) + 2251799813685248.0;
-    ((floats::to_bits(z) / 2) % 4096) as usize
+    ((floats::to_bits(q + 2147483648.0) / 2097152) % 4096) as usize
 }
 
-// Whether h is the quotient without its fraction, of a value inside the ends.
-fn is_sure(e: RegularBinEdges, x: f64, q: f64, h: usize) -> bool
+// Whether h is q without its fraction.
+fn is_sure(q: f64, h: usize) -> bool
     requires { ⌜ h < 4096 ⌝ }
-    ensures { λ r. ⌜ r ≡ isSure e x q h ⌝ }
+    ensures { λ r. ⌜ r ≡ isSure q h ⌝ }
 {
     let f = h as f64;
     let next = f + 1.0;
     if f <= q {
-        if q < next {
-            if x < e.min {
-                return false;
-            }
-            if e.max <= x {
-                return false;
-            }
-            return true;
-        }
+        return q < next;
     }
     false
 }
 
-// The bin where a guess is right, else the largest usize.
-fn sure_bin(e: RegularBinEdges, x: f64) -> usize
-    ensures { λ r. ⌜ r ≡ sureBin e x ⌝ }
+// Past an end, unless it is known that no value is.
+fn is_past(inside: bool, e: RegularBinEdges, x: f64) -> bool
+    ensures { λ r. ⌜ r ≡ isPast inside e x ⌝ }
+{
+    if inside {
+        return false;
+    }
+    if x < e.min {
+        return true;
+    }
+    e.max <= x
+}
+
+// The quotient without its fraction; 4096 past an end.
+fn number_for(inside: bool, e: RegularBinEdges, x: f64) -> usize
+    ensures { λ r. ⌜ r ≡ numberFor inside e x ⌝ }
+{
+    if is_past(inside, e, x) {
+        return 4096;
+    }
+    floats::as_usize((x - e.min) / e.bin_size)
+}
+
+// The same where a guess is right, else the largest usize.
+fn sure_number(inside: bool, e: RegularBinEdges, x: f64) -> usize
+    ensures { λ r. ⌜ r ≡ sureNumber inside e x ⌝ }
 {
     let q = (x - e.min) / e.bin_size;
     let h = guess_of(q);
-    if is_sure(e, x, q, h) { h } else { usize::MAX }
+    if is_sure(q, h) {
+        if is_past(inside, e, x) {
+            return usize::MAX;
+        }
+        return h;
+    }
+    usize::MAX
 }
 
-// A loop of its own, with nothing but arithmetic, goes several values at a time.
-fn sure_bins(e: RegularBinEdges, x: &[f64], found: &mut [usize])
+// A loop of its own, with nothing but arithmetic, goes several values at a time. What it returns is at least each number.
+fn sure_numbers(inside: bool, e: RegularBinEdges, x: &[f64], found: &mut [usize]) -> usize
     requires { ⌜ length (now found) ≡ length (now x) ⌝ }
-    ensures { λ _. ⌜ now (found .exit) ≡ map (sureBin e) (now (x .entry)) ⌝ }
+    ensures { λ r. ⌜ (now (found .exit) ≡ map (sureNumber inside e) (now (x .entry))) × AtMost r (now (found .exit)) ⌝ }
 {
+    let mut all = 0;
     let mut q = 0;
     while q < x.len() {
-        found[q] = sure_bin(e, x[q]);
+        let number = sure_number(inside, e, x[q]);
+        found[q] = number;
+        all = all | number;
         q += 1;
     }
+    all
 }
 
-// Looks up what is no bin yet.
-fn settle_all(e: RegularBinEdges, list: &[f64], x: &[f64], found: &mut [usize])
-    requires { ⌜ length (now found) ≡ length (now x) ⌝ ∗ ⌜ now found ≡ map (sureBin e) (now x) ⌝ }
-    ensures { λ _. ⌜ now (found .exit) ≡ map (λ v. numberOr (builtBin (Regular e) (now (list .entry)) v)) (now (x .entry)) ⌝ }
+// Finds what no guess has found.
+fn settle_all(inside: bool, e: RegularBinEdges, x: &[f64], found: &mut [usize])
+    requires { ⌜ length (now found) ≡ length (now x) ⌝ ∗ ⌜ now found ≡ map (sureNumber inside e) (now x) ⌝ }
+    ensures { λ _. ⌜ now (found .exit) ≡ map (numberFor inside e) (now (x .entry)) ⌝ }
 {
     let mut q = 0;
     while q < x.len() {
-        if found[q] >= e.n_bins {
-            found[q] = number_of(reducer::bin_of(BuiltEdges::Regular(e), list, x[q]));
+        if found[q] >= 4096 {
+            found[q] = number_for(inside, e, x[q]);
         }
         q += 1;
     }
 }
 
-// The bin of each value; 4096 where there is none. Nothing is done where the lengths differ.
+// The numbers of all values; seldom is one left to settle.
+fn numbers_for(inside: bool, e: RegularBinEdges, x: &[f64], found: &mut [usize])
+    requires { ⌜ length (now found) ≡ length (now x) ⌝ }
+    ensures { λ _. ⌜ now (found .exit) ≡ map (numberFor inside e) (now (x .entry)) ⌝ }
+{
+    let all = sure_numbers(inside, e, x, &mut *found);
+    if all >= 4096 {
+        settle_all(inside, e, x, found);
+    }
+}
+
+// The bin of each value, or a number past the bins where there is none. Nothing is done where the lengths differ.
+// inside: no value is past an end of the edges; of regular ones such a value has any number.
 pub fn bins_of(
+    inside: bool,
     edges: BuiltEdges,
     list: &[f64],
     hints: &[u8],
@@ -401,16 +436,13 @@ pub fn bins_of(
     x: &[f64],
     found: &mut [usize],
 )
-    ensures { λ _. ⌜ now (found .exit) ≡ foundOf edges (now (list .entry)) (now (hints .entry)) table (now (x .entry)) (now (found .entry)) ⌝ }
+    ensures { λ _. ⌜ now (found .exit) ≡ foundOf inside edges (now (list .entry)) (now (hints .entry)) table (now (x .entry)) (now (found .entry)) ⌝ }
 {
     if found.len() != x.len() {
         return;
     }
     match edges {
-        BuiltEdges::Regular(e) => {
-            sure_bins(e, x, &mut *found);
-            settle_all(e, list, x, found);
-        }
+        BuiltEdges::Regular(e) => numbers_for(inside, e, x, found),
         BuiltEdges::Irregular => hinted_bins(list, hints, table, x, found),
     }
 }

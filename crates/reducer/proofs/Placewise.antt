@@ -35,7 +35,7 @@ pub room : (n size s len : ℕ) → n ≤ 4096 → size ≤ 4096 → s < n → n
 unfolding hasRoom
 room n size s len a b c d = rw (le-leb n 4096 a, le-leb size 4096 b, lt-ltb s n c, le-leb (n * size) len d)
 
-below-again : (n : ℕ) (o : Option ℕ) → below n (below n o) ≡ below n o
+pub below-again : (n : ℕ) (o : Option ℕ) → below n (below n o) ≡ below n o
 below-again n none = refl
 below-again n (some i) = go (ltb i n) refl
   where
@@ -45,7 +45,7 @@ below-again n (some i) = go (ltb i n) refl
 
 module _ (list : List Float) where
   -- a bin found is one of the bins
-  kept-bin : (e : BuiltEdges) (x : Float) → below (builtBins e (length list)) (builtBin e list x) ≡ builtBin e list x
+  pub kept-bin : (e : BuiltEdges) (x : Float) → below (builtBins e (length list)) (builtBin e list x) ≡ builtBin e list x
   unfolding builtBin
   kept-bin e x = below-again (builtBins e (length list)) (builtFind e list x)
 

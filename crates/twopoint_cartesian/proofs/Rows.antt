@@ -1,7 +1,7 @@
 -- A histogram's rows: the values of a row's pairs, their bins, and the weights added, are the cells added in order. Assumes nothing.
 use mathlib.Core.Path.{_≡_, refl, sym, ap, _∙_}
 use mathlib.Core.Option.{Option, none, some}
-use mathlib.Core.Bool.{false, cond}
+use mathlib.Core.Bool.{Bool, true, false, cond}
 use mathlib.Core.List.{List, [], _∷_, map}
 use Prim.Native.Nat.{ℕ, zero, suc, _+_, _-_, _*_, _<_, _≤_}
 use native.Mathlib.Nat.{sub-zero}
@@ -11,6 +11,7 @@ use lib.ListN.{length, getD, set, take, length-replicate, length-map}
 use lib.Seq.{length-take-le}
 use lib.Ieee.{Float, binary64, mul, fits}
 use borrow.Author.Tests.{lt-ltb, le-ltb}
+use Rattle.definitions.specs.Bins.{below}
 use Rattle.definitions.specs.Lists.{at, overwritten}
 use Rattle.definitions.specs.Floats.{zeroF}
 use Rattle.definitions.specs.Blocks as blocks
@@ -25,18 +26,17 @@ use Rattle.reducer.specs.declared.Reducer.{Reducer}
 use Rattle.reducer.specs.declared.Reducer.the-variants.{ComponentSumHistogram}
 use Rattle.reducer.specs.Readings.{opOf, theDatum, readingOf}
 use Rattle.reducer.specs.Consume as consume
-use Rattle.reducer.specs.Consume.{builtBins, builtFind, builtBin, addIn, reducerSize, consumed}
+use Rattle.reducer.specs.Consume.{builtBins, addIn, reducerSize, consumed}
 use Rattle.reducer.proofs.Placewise.{room, consumed-length}
 use Rattle.edge_table.specs.declared.Table.{Table}
-use Rattle.edge_table.specs.Table.{numberOr, foundOf}
-use Rattle.edge_table.proofs.Batch.{found-bins}
+use Rattle.edge_table.specs.Table.{numberOr, foundOf, numberIn}
+use Rattle.edge_table.proofs.Batch.{found-bins, indexIn, index-number, index-bin}
 use Rattle.idx_3d_offset.specs.declared.Axes.{Axes}
 use Rattle.idx_3d_offset.specs.Offsets.{Reach}
 use Rattle.twopoint_cartesian.specs.declared.Setup.{Setup}
 use Rattle.twopoint_cartesian.specs.declared.Tables.{Tables}
 use Rattle.twopoint_cartesian.specs.Cells.{Fields, readingIn, datumIn, cellsAdded, rowAdded, rowValue, weightAdded, weightsAdded, Binned, RowRoom, Looked, Roomy, Ready, overlapOf, fresh}
 use Rattle.twopoint_cartesian.proofs.Loops.{left-turn, left-done, kept}
-use Rattle.twopoint_cartesian.proofs.Merge.{below-found}
 use Rattle.twopoint_cartesian.proofs.Cells.{count-a}
 
 -- ---- a row's values, turn by turn; d is what a call answered
@@ -90,31 +90,33 @@ map-at f (x ∷ l) (suc k) h = map-at f l k (omega arith)
 
 -- one weight, where the state is of the histogram's size
 one-weight : (edges : BuiltEdges) (es : List Float) (d : definitions.Datum) (s : List Float) → length s ≡ builtBins edges (length es) → length s ≤ 256
-    → weightAdded (numberOr (builtBin edges es (componentSum d))) (d .weight) s ≡ consumed (ComponentSumHistogram edges) es 1 0 d s
-unfolding weightAdded consume.builtBin consume.consumed consume.consumedAt
+    → weightAdded (numberIn false edges es (componentSum d)) (d .weight) s ≡ consumed (ComponentSumHistogram edges) es 1 0 d s
+unfolding weightAdded consume.consumed consume.consumedAt
 one-weight edges es d s e h =
-    go (builtBin edges es (componentSum d)) refl
-    ∙ sym (ap (λ (o : Option ℕ). addIn o 1 0 (d .weight) s) (kept edges es (componentSum d)))
+    ap (λ (k : ℕ). cond (ltb k (length s)) (bump k (d .weight) s) s) (index-number edges es (componentSum d))
+    ∙ go (indexIn edges es (componentSum d))
+    ∙ (λ i. addIn ((ap (λ (n : ℕ). below n (indexIn edges es (componentSum d))) e ∙ index-bin edges es (componentSum d) ∙ sym (kept edges es (componentSum d))) i) 1 0 (d .weight) s)
     ∙ sym (rw (room 1 (builtBins edges (length es)) 0 (length s) (omega arith) (omega arith) (omega arith) (omega arith)))
   where
-    go : (o : Option ℕ) → builtBin edges es (componentSum d) ≡ o → cond (ltb (numberOr o) (length s)) (bump (numberOr o) (d .weight) s) s ≡ addIn o 1 0 (d .weight) s
-    go none t = rw (le-ltb 4096 (length s) (omega arith))
-    go (some b) t =
-        let l = below-found (builtBins edges (length es)) (builtFind edges es (componentSum d)) b t in
-        let k : b ≡ b * 1 + 0 = omega arith in
-        (rw (lt-ltb b (length s) (omega arith))) ∙ ap (λ (i : ℕ). bump i (d .weight) s) k
+    go : (o : Option ℕ) → cond (ltb (numberOr o) (length s)) (bump (numberOr o) (d .weight) s) s ≡ addIn (below (length s) o) 1 0 (d .weight) s
+    go none = rw (le-ltb 4096 (length s) (omega arith))
+    go (some b) = pick (ltb b (length s))
+      where
+        pick : (t : Bool) → cond t (bump b (d .weight) s) s ≡ addIn (cond t (some b) none) 1 0 (d .weight) s
+        pick false = refl
+        pick true = let k : b ≡ b * 1 + 0 = omega arith in ap (λ (i : ℕ). bump i (d .weight) s) k
 
 -- the values, and what the lookup of them left
 module _ (setup : Setup) (es : List Float) (a b : Fields) (edges : BuiltEdges) (hints : List ℕ) (table : Table) (i j n : ℕ) (v s : List Float) (u : Binned setup edges es table (length s)) (vs : List Float) (f fs : List ℕ)
-    (r : RowRoom n (length v) (length f)) (ev : vs ≡ overwritten n (rowValue setup a b i j) v) (held : (k : ℕ) → T (fits binary64 (at vs k))) (ef : fs ≡ foundOf edges es hints table vs f) where
+    (r : RowRoom n (length v) (length f)) (ev : vs ≡ overwritten n (rowValue setup a b i j) v) (held : (k : ℕ) → T (fits binary64 (at vs k))) (ef : fs ≡ foundOf false edges es hints table vs f) where
   abbrev bin : Float → ℕ
-  bin x = numberOr (builtBin edges es x)
+  bin x = numberIn false edges es x
 
   values-length : length vs ≡ n
   values-length = ap length ev ∙ overwritten-length (rowValue setup a b i j) n v (omega (arith, r .values)) ∙ r .values
 
   bins-are : fs ≡ map bin vs
-  bins-are = ef ∙ found-bins es hints table edges (u .tabled) vs f held (r .found ∙ sym values-length)
+  bins-are = ef ∙ found-bins es hints table false edges (u .tabled) vs f held (r .found ∙ sym values-length)
 
   found-length : length fs ≡ n
   found-length = ap length bins-are ∙ length-map vs bin ∙ values-length

@@ -196,7 +196,7 @@ fn add_row(
         (fields (now (b0 .entry)) (now (b1 .entry)) (now (b2 .entry)) (now (bw .entry))) i j 0 n (now (state .entry)) ⌝ }
 {
     gather_row(setup, a0, a1, a2, aw, b0, b1, b2, bw, i, j, n, values);
-    edge_table::bins_of(edges, value_edges, hints, table, values, found);
+    edge_table::bins_of(false, edges, value_edges, hints, table, values, found);
     add_weights(aw, bw, i, j, found, state);
 }
 

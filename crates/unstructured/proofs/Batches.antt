@@ -31,11 +31,11 @@ use Rattle.reducer.specs.declared.Reducer.the-variants.{Comp0Mean, ComponentSum
 use Rattle.reducer.specs.declared.Datum as declared
 use Rattle.reducer.specs.Readings.{opOf, theDatum}
 use Rattle.reducer.specs.Consume.{reducerSize, builtBins, builtBin, hasRoom, addIn, consumedAt, consumed}
-use Rattle.reducer.proofs.Ways.{consumed-found}
+use Rattle.reducer.proofs.Placewise.{kept-bin}
 use Rattle.edge_table.specs.declared.Table.{Table}
-use Rattle.edge_table.specs.Table.{numberOr, foundOf, tableBin}
+use Rattle.edge_table.specs.Table.{numberOr, foundOf, numberIn, tableBin}
 use Rattle.edge_table.specs.Tabled.{EndsOf, Tabled, TabledValues}
-use Rattle.edge_table.proofs.Batch.{found-bins}
+use Rattle.edge_table.proofs.Batch.{found-bins, indexIn, index-number, index-bin, inside-bin}
 use Rattle.edge_table.proofs.Lookup.{bin-low, bin-high, found-bin}
 use Rattle.unstructured.specs.declared.Setup.{Setup}
 use Rattle.unstructured.specs.declared.Pair.{Pair}
@@ -154,39 +154,32 @@ histogram-number e m n b d s none = go (ltb 4096 (builtBins e m)) refl
     go true h = rw (large-states n (builtBins e m) b (length s) (lt-leb (builtBins e m) 4096 (ltb-true 4096 (builtBins e m) h)))
 
 module _ (valueEdges : List Float) (n b : ℕ) (d : Datum) (s : List Float) (v : ℕ) where
-  value-number : (r : Reducer) → ((e : BuiltEdges) → r ≡ ComponentSumHistogram e → v ≡ numberOr (builtBin e valueEdges (componentSum d)))
+  value-number : (r : Reducer) → ((e : BuiltEdges) → r ≡ ComponentSumHistogram e → v ≡ numberIn false e valueEdges (componentSum d))
       → consumedAt r (length valueEdges) (some v) n b d s ≡ consumed r valueEdges n b d s
   unfolding consumed consumedAt
   value-number Comp0Mean h = refl
   value-number ComponentSumMean h = refl
   value-number (ComponentSumHistogram e) h =
-      ap (λ (x : ℕ). consumedAt (ComponentSumHistogram e) (length valueEdges) (some x) n b d s) (h e refl)
-      ∙ histogram-number e (length valueEdges) n b d s (builtBin e valueEdges (componentSum d))
+      let m = length valueEdges in
+      let o = indexIn e valueEdges (componentSum d) in
+      ap (λ (x : ℕ). consumedAt (ComponentSumHistogram e) m (some x) n b d s) (h e refl ∙ index-number e valueEdges (componentSum d))
+      ∙ histogram-number e m n b d s o
+      ∙ (λ i. cond (hasRoom n (builtBins e m) b (length s)) (addIn ((index-bin e valueEdges (componentSum d) ∙ sym (kept-bin valueEdges e (componentSum d))) i) n b (d .weight) s) s)
 
 module _ (setup : Setup) (valueEdges : List Float) (a b : points.Point) (v : ℕ) (s : List Float) where
   abbrev datum : Datum
   datum = datumOf (opOf (setup .op)) (a .rd) (b .rd)
 
   -- a pair by the number of its bin
-  numbered : (o : Option ℕ) → ((e : BuiltEdges) → setup .reducer ≡ ComponentSumHistogram e → v ≡ numberOr (builtBin e valueEdges (componentSum datum)))
-      → pairPlaced setup (length valueEdges) v (numberedPair setup a b (numberOr o)) s ≡ pairAdded setup valueEdges (pairIn o datum) s
+  numbered : (k : ℕ) (o : Option ℕ) → below (setup .«n_states») (some k) ≡ o
+      → ((e : BuiltEdges) → setup .reducer ≡ ComponentSumHistogram e → v ≡ numberIn false e valueEdges (componentSum datum))
+      → pairPlaced setup (length valueEdges) v (numberedPair setup a b k) s ≡ pairAdded setup valueEdges (pairIn o datum) s
   unfolding numberedPair
-  numbered none h = go (ltb 4096 (setup .«n_states»)) refl
+  numbered k o e h = ap (λ (x : Option ℕ). pairPlaced setup (length valueEdges) v (pairIn x datum) s) e ∙ go o
     where
-      go : (t : Bool) → ltb 4096 (setup .«n_states») ≡ t → pairPlaced setup (length valueEdges) v (pairIn (cond t (some 4096) none) datum) s ≡ s
-      go false e = refl
-      go true e =
-          no-room (setup .reducer) (length valueEdges) (some v) (setup .«n_states») 4096 datum s
-          (many-states (setup .«n_states») _ 4096 (length s) (lt-leb (setup .«n_states») 4096 (ltb-true 4096 (setup .«n_states») e)))
-  numbered (some i) h = go (ltb i (setup .«n_states»)) refl
-    where
-      go : (t : Bool) → ltb i (setup .«n_states») ≡ t
-          → pairPlaced setup (length valueEdges) v (pairIn (cond t (some i) none) datum) s ≡ consumed (setup .reducer) valueEdges (setup .«n_states») i datum s
-      go true e = value-number valueEdges (setup .«n_states») i datum s v (setup .reducer) h
-      go false e =
-          sym
-          (consumed-found (setup .reducer) valueEdges (setup .«n_states») i datum s
-          ∙ no-room (setup .reducer) (length valueEdges) _ (setup .«n_states») i datum s (past-states (setup .«n_states») _ i (length s) e))
+      go : (x : Option ℕ) → pairPlaced setup (length valueEdges) v (pairIn x datum) s ≡ pairAdded setup valueEdges (pairIn x datum) s
+      go none = refl
+      go (some i) = value-number valueEdges (setup .«n_states») i datum s v (setup .reducer) h
 
 -- ---- lists by places
 at-map : {A B : Type 0} (f : A → B) (l : List A) (q : ℕ) (o : A) (z : B) → q < length l → getD (map f l) q z ≡ f (getD l q o)
@@ -200,10 +193,10 @@ at-maps f g l q o p z h =
     at-map g (map f l) q p z k ∙ ap g (at-map f l q o p h)
 
 value-at : (r : Reducer) (e : BuiltEdges) (edges : List Float) (f : ℕ → Float) (l found : List ℕ) (q : ℕ) → q < length l → r ≡ ComponentSumHistogram e
-    → getD (valueNumbers r edges (map f l) found) q 0 ≡ numberOr (builtBin e edges (f (getD l q 0)))
+    → getD (valueNumbers r edges (map f l) found) q 0 ≡ numberIn false e edges (f (getD l q 0))
 unfolding valueNumbers
 value-at r e edges f l found q h k =
-    ap (λ (y : Reducer). getD (valueNumbers y edges (map f l) found) q 0) k ∙ at-maps f (λ v. numberOr (builtBin e edges v)) l q 0 nan 0 h
+    ap (λ (y : Reducer). getD (valueNumbers y edges (map f l) found) q 0) k ∙ at-maps f (numberIn false e edges) l q 0 nan 0 h
 
 module _ (setup : Setup) (m : ℕ) (a : points.Point) (g : ℕ → points.Point) (j : ℕ) (places found valueFound : List ℕ) where
   pub placed-none : (s : List Float) → s ≡ placedTo a g j setup m places found valueFound 0 s
@@ -297,32 +290,39 @@ module _ (setup : Setup) (list valueEdges : List Float) (a : points.Point) (g : 
       ap (rowAdded setup list valueEdges a g (j + m) (n - (j + m))) e ∙ sym (row-join j m (n - (j + m)) s) ∙ sym (ap (λ (x : ℕ). rowAdded setup list valueEdges a g j x s) k) ∙ inv
 
   -- ---- a batch: its listed pairs are the row's
-  module _ (table : Table) (tabled : Tabled (setup .edges) list table) (d : List Float) (m j : ℕ) (distant : (e : ℕ) → e < m → getD d e nan ≡ squaredDiffNorm a (g (j + e))) (valueFound : List ℕ) where
+  module _ (table : Table) (tabled : Tabled (setup .edges) list table) (states : setup .«n_states» ≡ builtBins (setup .edges) (length list)) (d : List Float) (m j : ℕ) (distant : (e : ℕ) → e < m → getD d e nan ≡ squaredDiffNorm a (g (j + e))) (valueFound : List ℕ) where
     abbrev listed : List ℕ
     listed = keptBelow (table .first) (table .last) d m
 
     abbrev value : ℕ → Float
     value e = componentSum (datumOf (opOf (setup .op)) (a .rd) (g (j + e) .rd))
 
-    abbrev binNumber : Float → ℕ
-    binNumber x = numberOr (builtBin (setup .edges) list x)
+    abbrev number : Float → ℕ
+    number x = numberIn true (setup .edges) list x
+
+    -- a listed distance, which is past no end, has its bin's number
+    listed-bin : (q : ℕ) → q < length listed → below (setup .«n_states») (some (number (getD d (getD listed q 0) nan))) ≡ builtBin (setup .edges) list (squaredDiffNorm a (g (j + getD listed q 0)))
+    listed-bin =
+        kept-all (λ e. below (setup .«n_states») (some (number (getD d e nan))) ≡ builtBin (setup .edges) list (squaredDiffNorm a (g (j + e)))) (table .first) (table .last) d m
+        (λ e l y z.
+        ap (λ (n : ℕ). below n (some (number (getD d e nan)))) states ∙ inside-bin (setup .edges) list table tabled (getD d e nan) y z ∙ ap (builtBin (setup .edges) list) (distant e l))
 
     pair-placed : (q : ℕ) → q < length listed → (t : List Float)
         → pairPlaced setup (length valueEdges) (getD (valueNumbers (setup .reducer) valueEdges (map value listed) valueFound) q 0)
-        (numberedPair setup a (g (j + getD listed q 0)) (getD (map binNumber (map (λ e. getD d e nan) listed)) q 0)) t
+        (numberedPair setup a (g (j + getD listed q 0)) (getD (map number (map (λ e. getD d e nan) listed)) q 0)) t
         ≡ placeStep j (getD listed q 0) t
     unfolding pairStep builtPair
     pair-placed q h t =
         let e = getD listed q 0 in
-        let n = kept-all (λ e. getD d e nan ≡ squaredDiffNorm a (g (j + e))) (table .first) (table .last) d m (λ e l p q. distant e l) q h in
         let v = getD (valueNumbers (setup .reducer) valueEdges (map value listed) valueFound) q 0 in
-        ap (λ (x : ℕ). pairPlaced setup (length valueEdges) v (numberedPair setup a (g (j + e)) x) t) (at-maps (λ e. getD d e nan) binNumber listed q 0 nan 0 h ∙ ap binNumber n)
-        ∙ numbered setup valueEdges a (g (j + e)) v t (builtBin (setup .edges) list (squaredDiffNorm a (g (j + e)))) (λ r k. value-at (setup .reducer) r valueEdges value listed valueFound q h k)
+        ap (λ (x : ℕ). pairPlaced setup (length valueEdges) v (numberedPair setup a (g (j + e)) x) t) (at-maps (λ e. getD d e nan) number listed q 0 nan 0 h)
+        ∙ numbered setup valueEdges a (g (j + e)) v t (number (getD d e nan)) (builtBin (setup .edges) list (squaredDiffNorm a (g (j + e)))) (listed-bin q h)
+        (λ r k. value-at (setup .reducer) r valueEdges value listed valueFound q h k)
 
     listed-row : (s : List Float) → placesAdded setup list valueEdges a g j listed (picked d listed) valueFound s ≡ rowAdded setup list valueEdges a g j m s
     unfolding placesAdded picked pairValues
     listed-row s =
-        placed-all setup (length valueEdges) a g j listed (map binNumber (map (λ e. getD d e nan) listed)) (valueNumbers (setup .reducer) valueEdges (map value listed) valueFound) (placeStep j) pair-placed s
+        placed-all setup (length valueEdges) a g j listed (map number (map (λ e. getD d e nan) listed)) (valueNumbers (setup .reducer) valueEdges (map value listed) valueFound) (placeStep j) pair-placed s
         ∙ kept-row (table .first) (table .last) (tabled .ends) d j m s distant
 
     pub batch-row : (places : List ℕ) (x s q : List Float) → places ≡ listed → x ≡ picked d listed → q ≡ placesAdded setup list valueEdges a g j places x valueFound s
@@ -356,20 +356,20 @@ module _ (kind : Reducer) (edges : List Float) (found : List ℕ) (x : List Floa
 
   -- y is what the values were written to, q what the lookups left
   pub value-found : (e : BuiltEdges) (hints : List ℕ) (table : Table) (y : List Float) (q : List ℕ) → kind ≡ ComponentSumHistogram e → TabledValues kind edges table
-      → ((i : ℕ) → T (fits binary64 (getD x i nan))) → length found ≡ length y → y ≡ x → q ≡ foundOf e edges hints table y found → q ≡ valueNumbers kind edges x found
+      → ((i : ℕ) → T (fits binary64 (getD x i nan))) → length found ≡ length y → y ≡ x → q ≡ foundOf false e edges hints table y found → q ≡ valueNumbers kind edges x found
   unfolding valueNumbers
   value-found e hints table y q h t f l same p =
-      p ∙ found-bins edges hints table e (subst (λ (k : Reducer). TabledValues k edges table) h t) y found (λ i. subst (λ (w : List Float). T (fits binary64 (getD w i nan))) (sym same) (f i)) l
-      ∙ ap (map (λ v. numberOr (builtBin e edges v))) same ∙ (rw h)
+      p ∙ found-bins edges hints table false e (subst (λ (k : Reducer). TabledValues k edges table) h t) y found (λ i. subst (λ (w : List Float). T (fits binary64 (getD w i nan))) (sym same) (f i)) l
+      ∙ ap (map (numberIn false e edges)) same ∙ (rw h)
 
 -- the pairs added by what the lookups left
 pub places-added : (setup : Setup) (list valueEdges : List Float) (hints : List ℕ) (table : Table) (a : points.Point) (g : ℕ → points.Point) (j : ℕ) (places : List ℕ) (d : List Float)
-    (found valueFound u v : List ℕ) (s q : List Float) → Tabled (setup .edges) list table → ((i : ℕ) → T (fits binary64 (getD d i nan))) → length found ≡ length d → u ≡ foundOf (setup .edges) list hints table d found
+    (found valueFound u v : List ℕ) (s q : List Float) → Tabled (setup .edges) list table → ((i : ℕ) → T (fits binary64 (getD d i nan))) → length found ≡ length d → u ≡ foundOf true (setup .edges) list hints table d found
     → v ≡ valueNumbers (setup .reducer) valueEdges (pairValues a g j (setup .op) places) valueFound → q ≡ placedTo a g j setup (length valueEdges) places u v (length places) s
     → q ≡ placesAdded setup list valueEdges a g j places d valueFound s
 unfolding placesAdded
 places-added setup list valueEdges hints table a g j places d found valueFound u v s q t w k e f r =
-    r ∙ (λ i. placedTo a g j setup (length valueEdges) places ((e ∙ found-bins list hints table (setup .edges) t d found w k) i) (f i) (length places) s)
+    r ∙ (λ i. placedTo a g j setup (length valueEdges) places ((e ∙ found-bins list hints table true (setup .edges) t d found w k) i) (f i) (length places) s)
 
 -- ---- a histogram's pairs by their weights
 module _ (e : BuiltEdges) (m n v : ℕ) (x : Datum) (y : Float) (same : x .weight ≡ y) (s : List Float) where

@@ -28,8 +28,8 @@ use Rattle.reducer.specs.declared.PairOperation.{PairOperation}
 use Rattle.reducer.specs.declared.BuiltEdges.{BuiltEdges}
 use Rattle.reducer.specs.declared.Reducer.{Reducer}
 use Rattle.reducer.specs.Readings.{opOf, edgesOf, kindOf}
-use Rattle.reducer.specs.Consume.{madeEdges, made, builtBin, consumed}
-use Rattle.reducer.proofs.Placewise.{bin-bounded, room, made-bin, consumed-length, consumed-at}
+use Rattle.reducer.specs.Consume.{madeEdges, made, builtBins, builtBin, consumed}
+use Rattle.reducer.proofs.Placewise.{bin-bounded, room, made-bin, consumed-length, consumed-at, made-bins}
 use Rattle.edge_table.specs.Tabled.{Usable, UsableValues}
 use Rattle.edge_table.proofs.Lookup.{usable-made, usable-values-made}
 use Rattle.parallel_serial.specs.declared.Shape.{Shape}
@@ -153,11 +153,12 @@ module _ (pa va wa : List Float) (a : PointSet) (sa : ℕ) (qa : sa ≡ strideOr
 
 -- accepted edges and value edges can be looked up by tables
 pub usable-run : (edges : Edges) (list : List Float) (kind : Kind) (valueEdges : List Float) (shape : Shape) (len : ℕ) → Drivable (edgesOf edges list) (kindOf kind valueEdges) shape len
-    → ((i : ℕ) → T (fits binary64 (at list i))) → ((i : ℕ) → T (fits binary64 (at valueEdges i))) → (setup : Setup) → setup .edges ≡ builtEdges edges → setup .reducer ≡ builtReducer kind → UsableRun setup list valueEdges
-usable-run edges list kind valueEdges shape len d f g setup eb er =
+    → ((i : ℕ) → T (fits binary64 (at list i))) → ((i : ℕ) → T (fits binary64 (at valueEdges i))) → (setup : Setup) → setup .edges ≡ builtEdges edges → setup .reducer ≡ builtReducer kind → setup .«n_states» ≡ shape .«n_states» → UsableRun setup list valueEdges
+usable-run edges list kind valueEdges shape len d f g setup eb er en =
     record {
       edges = subst (λ (e : BuiltEdges). Usable e list) (sym (eb ∙ built-made edges list (d .edges))) (usable-made list f edges (d .edges));
       values = subst (λ (r : Reducer). UsableValues r valueEdges) (sym (er ∙ reducer-made kind valueEdges (d .values))) (usable-values-made valueEdges g kind (d .values));
+      states = en ∙ d .states ∙ sym (ap (λ (e : BuiltEdges). builtBins e (length list)) (eb ∙ built-made edges list (d .edges)) ∙ made-bins list edges);
     }
 
 pub all-taken : (n : ℕ) (z : List Float) → z ≡ zeroPack → take n z ≡ take n zeroPack

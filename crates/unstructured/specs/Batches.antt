@@ -1,4 +1,5 @@
 -- What the rows in batches promise and ask: lookups by tables, the places of a batch that are not outside the ends.
+use mathlib.Core.Path.{_≡_}
 use mathlib.Core.Option.{some}
 use mathlib.Core.List.{List, [], _∷_, _++_, map}
 use mathlib.Core.Bool.{Bool, true, false}
@@ -15,21 +16,23 @@ use Rattle.reducer.specs.declared.PairOperation.{PairOperation}
 use Rattle.reducer.specs.declared.Reducer as declared
 use Rattle.reducer.specs.declared.Reducer.the-variants.{Comp0Mean, ComponentSumMean, ComponentSumHistogram}
 use Rattle.reducer.specs.Readings.{opOf}
-use Rattle.reducer.specs.Consume.{builtBin, consumedAt}
-use Rattle.edge_table.specs.Table.{numberOr}
+use Rattle.reducer.specs.Consume.{builtBins, consumedAt}
+use Rattle.edge_table.specs.Table.{numberIn}
 use Rattle.edge_table.specs.Tabled.{Usable, UsableValues, Tabled, TabledValues}
 use Rattle.unstructured.specs.declared.Setup.{Setup}
 use Rattle.unstructured.specs.declared.Tables.{Tables}
 
--- the run's edges and value edges can be looked up by tables
+-- the run's edges and value edges can be looked up by tables, and each bin has a state
 pub record UsableRun (setup : Setup) (list valueEdges : List Float) : Type 0 where
   pub edges : Usable (setup .edges) list
   pub values : UsableValues (setup .reducer) valueEdges
+  pub states : setup .«n_states» ≡ builtBins (setup .edges) (length list)
 
 -- these are their tables
 pub record TabledRun (setup : Setup) (list valueEdges : List Float) (tables : Tables) : Type 0 where
   pub edges : Tabled (setup .edges) list (tables .edges)
   pub values : TabledValues (setup .reducer) valueEdges (tables .values)
+  pub states : setup .«n_states» ≡ builtBins (setup .edges) (length list)
 
 -- a batch of m points has room in each slice
 pub record Rooms (m : ℕ) (d : List Float) (places found valueFound : List ℕ) : Type 0 where
@@ -90,7 +93,7 @@ module _ (a : Points.Point) (g : ℕ → Points.Point) (j : ℕ) where
 unfoldable pub valueNumbers : declared.Reducer → List Float → List Float → List ℕ → List ℕ
 valueNumbers Comp0Mean edges x found = found
 valueNumbers ComponentSumMean edges x found = found
-valueNumbers (ComponentSumHistogram e) edges x found = map (λ v. numberOr (builtBin e edges v)) x
+valueNumbers (ComponentSumHistogram e) edges x found = map (numberIn false e edges) x
 
 -- a datum of which the weight alone counts
 abbrev pub weightDatum : Float → Reducer.Datum
@@ -103,8 +106,8 @@ weightsTo e m n w weights j places found valueFound (suc q) s =
     consumedAt (ComponentSumHistogram e) m (some (getD valueFound q 0)) n (getD found q 0) (weightDatum (mul binary64 w (at weights (j + getD places q 0))))
     (weightsTo e m n w weights j places found valueFound q s)
 
--- the pairs of a with places of a batch, whose distances are d
+-- the pairs of a with places of a batch, whose distances are d and past no end
 unfoldable pub placesAdded : Setup → List Float → List Float → Points.Point → (ℕ → Points.Point) → ℕ → List ℕ → List Float → List ℕ → List Float → List Float
 placesAdded setup list valueEdges a g j places d valueFound s =
-    placedTo a g j setup (length valueEdges) places (map (λ x. numberOr (builtBin (setup .edges) list x)) d)
+    placedTo a g j setup (length valueEdges) places (map (numberIn true (setup .edges) list) d)
     (valueNumbers (setup .reducer) valueEdges (pairValues a g j (setup .op) places) valueFound) (length places) s

@@ -241,7 +241,7 @@ fn value_bins(
                 places,
                 &mut *d,
             );
-            edge_table::bins_of(edges, value_edges, hints, table, &*d, &mut *found);
+            edge_table::bins_of(false, edges, value_edges, hints, table, &*d, &mut *found);
         }
     }
 }
@@ -510,7 +510,7 @@ fn add_places(
     let edges = setup.edges;
     let table = tables.edges;
     let value_table = tables.values;
-    edge_table::bins_of(edges, list, hints, table, &*d, &mut *found);
+    edge_table::bins_of(true, edges, list, hints, table, &*d, &mut *found);
     value_bins(
         setup,
         value_edges,

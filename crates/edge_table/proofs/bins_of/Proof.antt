@@ -1,3 +1,4 @@
+use borrow.Author.Needs.{needs}
 use Rattle.edge_table.proofs.Batch.{found-unlike, found-regular, found-irregular}
 use borrow.Author.Needs.{needs}
 use Rattle.edge_table.proofs.bins_of.Statement.{statement}
@@ -5,46 +6,41 @@ use Rattle.edge_table.proofs.bins_of.Tie as tie
 use Rattle.edge_table.proofs.bins_of.Reads as reads
 use Rattle.edge_table.proofs.bins_of.Lts as lts
 use Rattle.edge_table.proofs.hinted_bins.Reads as hinted-bins-reads
-use Rattle.edge_table.proofs.settle_all.Reads as settle-all-reads
-use Rattle.edge_table.proofs.sure_bins.Reads as sure-bins-reads
+use Rattle.edge_table.proofs.numbers_for.Reads as numbers-for-reads
 
--- src/lib.rt:398:9
+-- src/lib.rt:442:9
 returns : tie.Need-returns
 returns c = search found-unlike
 
--- src/lib.rt:401:29
+-- src/lib.rt:445:29
 enum-known-edges : tie.Need-enum-known-edges
 enum-known-edges c = search needs
 
--- src/lib.rt:402:13
-sure-bins-requires : tie.Need-sure-bins-requires
-sure-bins-requires c κs = search needs
+-- src/lib.rt:445:35
+numbers-for-requires : tie.Need-numbers-for-requires
+numbers-for-requires c κs = search needs
 
--- src/lib.rt:403:13
-settle-all-requires : tie.Need-settle-all-requires
-settle-all-requires c κs = search needs
-
--- src/lib.rt:405:69
+-- src/lib.rt:446:69
 enum-told : tie.Need-enum-told
 enum-told c = search needs
 
--- src/lib.rt:405:34
+-- src/lib.rt:446:34
 hinted-bins-requires : tie.Need-hinted-bins-requires
 hinted-bins-requires c κs = search needs
 
--- src/lib.rt:387:1
+-- src/lib.rt:430:1
 same-length : tie.Need-same-length
 same-length c = search needs
 
--- src/lib.rt:387:1
+-- src/lib.rt:430:1
 returns-2 : tie.Need-returns-2
 returns-2 c = search found-regular
 
--- src/lib.rt:387:1
+-- src/lib.rt:430:1
 same-length-2 : tie.Need-same-length-2
 same-length-2 c = search needs
 
--- src/lib.rt:387:1
+-- src/lib.rt:430:1
 returns-3 : tie.Need-returns-3
 returns-3 c = search found-irregular
 
@@ -54,8 +50,7 @@ bins-of-spec =
     (tie.spec
     returns
     enum-known-edges
-    sure-bins-requires
-    settle-all-requires
+    numbers-for-requires
     enum-told
     hinted-bins-requires
     same-length

@@ -1,3 +1,4 @@
+use borrow.Author.Needs.{needs}
 use mathlib.Core.Path.{ap}
 use Prim.Native.Nat.{ℕ, _/_, _%_}
 use native.Mathlib.Omega.{arith}
@@ -9,14 +10,14 @@ use Rattle.edge_table.proofs.guess_of.Reads as reads
 use Rattle.edge_table.proofs.guess_of.Lts as lts
 use Rattle.floats.proofs.to_bits.Reads as to-bits-reads
 
--- src/lib.rt:388:7
+-- src/lib.rt:333:7
 to-bits-requires : tie.Need-to-bits-requires
 to-bits-requires c κs = search needs
 
--- src/lib.rt:384:1
+-- src/lib.rt:330:1
 returns : tie.Need-returns
 unfolding guessOf
-returns c = (ap (λ (n : ℕ). n / 2 % 4096) (c .to-bits .ensures), omega arith)
+returns c = (ap (λ (n : ℕ). n / 2097152 % 4096) (c .to-bits .ensures), omega arith)
 
 pub guess-of-spec : {M : Type 1} → statement M
 guess-of-spec = tie.close (tie.spec to-bits-requires returns)

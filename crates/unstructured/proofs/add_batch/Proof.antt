@@ -98,7 +98,7 @@ returns c = let s = c .before .before .before .before .before .before .before .b
     let x = s .args in
     let i = c .before .before .before .before .before .before .before .before .before .before .before .before .before .before .before .before .before .before .list-inside in
     let d = c .before .before .before .before .before .before .before .before .before .before .before .before .before .before .before .before .before .before .before .before .before .before .before .distances in
-    batch-row (x .setup) (x .list .now) (x .value-edges .now) (thePoint (x .a)) (pointIn (x .positions .now) (x .values .now) (x .weights .now) (x .stride)) (x .tables .edges) (s .pre .0 .edges) (d .last .1 .1 .1 .1 .1 .1 .1 .0) (x .m) (x .j) (d .ensures) (take (i .result) (x .value-found .now)) _ _ (x .scratch .now) _ (i .ensures .1) (i .ensures .2) (c .before .before .before .before .before .before .before .before .add-places .ensures)
+    batch-row (x .setup) (x .list .now) (x .value-edges .now) (thePoint (x .a)) (pointIn (x .positions .now) (x .values .now) (x .weights .now) (x .stride)) (x .tables .edges) (s .pre .0 .edges) (s .pre .0 .states) (d .last .1 .1 .1 .1 .1 .1 .1 .0) (x .m) (x .j) (d .ensures) (take (i .result) (x .value-found .now)) _ _ (x .scratch .now) _ (i .ensures .1) (i .ensures .2) (c .before .before .before .before .before .before .before .before .add-places .ensures)
 
 pub add-batch-spec : {M : Type 1} → statement M
 add-batch-spec =

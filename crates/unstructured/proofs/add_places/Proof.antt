@@ -25,7 +25,7 @@ value-bins-requires c κs = let s = c .before .before .before .before .before .b
 add-found-requires : tie.Need-add-found-requires
 add-found-requires c κs = let s = c .before .before .before .before .before .before .before .before .before .before .before .before .before .before .before .before .before .before .before .before .before .before .before .before .before .before .before .before .before in
     let l = s .pre .1 .1 .1 in
-    (s .pre .1 .0, (s .pre .1 .1 .0, (c .before .before .before .before .before .before .before .before .before .before .before .before .bins-of .kept .1 .1 .1 .1 .1 .0 ∙ l .1, c .before .before .before .before .before .before .before .value-bins .kept .1 .1 .1 .1 .1 .1 .1 .1 .1 .1 .1 .1 .1 .0 ∙ l .2)))
+    (s .pre .1 .0, (s .pre .1 .1 .0, (c .before .before .before .before .before .before .before .before .before .before .before .before .bins-of .kept .1 .1 .1 .1 .1 .1 .0 ∙ l .1, c .before .before .before .before .before .before .before .value-bins .kept .1 .1 .1 .1 .1 .1 .1 .1 .1 .1 .1 .1 .1 .0 ∙ l .2)))
 
 -- src/lib.rt:458:1
 same-length : tie.Need-same-length

@@ -1,3 +1,4 @@
+use mathlib.Core.Path.{refl}
 use Rattle.unstructured.proofs.Runs.{used-limit, used-fits, readable, same-points, driven, usable-run}
 use borrow.Author.Needs.{needs}
 use Rattle.unstructured.proofs.drive.Statement.{statement}
@@ -34,7 +35,7 @@ run-sized-requires : tie.Need-run-sized-requires
 run-sized-requires c κs =
     let s = c .before .before .before .before .before .before .before .before .before .before .before .before .before .before in
     let x = s .args in
-    let u = usable-run (x .edges) (x .list .now) (x .kind) (x .value-edges .now) (x .shape) _ (s .pre .1 .1 .1) (c .before .before .before .before .before .before .before .shared-slice-known7 .given) (c .before .before .before .before .before .before .shared-slice-known8 .given) _ (c .before .before .before .before .build-edges .ensures) (c .before .before .before .build-reducer .ensures) in
+    let u = usable-run (x .edges) (x .list .now) (x .kind) (x .value-edges .now) (x .shape) _ (s .pre .1 .1 .1) (c .before .before .before .before .before .before .before .shared-slice-known7 .given) (c .before .before .before .before .before .before .shared-slice-known8 .given) (record { op = x .op; edges = c .before .before .before .before .build-edges .result; reducer = c .before .before .before .build-reducer .result; «n_states» = x .shape .«n_states» }) (c .before .before .before .before .build-edges .ensures) (c .before .before .before .build-reducer .ensures) refl in
     (search used-limit, (u, (search readable, (search readable, search (same-points, c .before .before .stride-of .ensures, c .before .stride-of2 .ensures, s .pre .1 .1 .0)))))
 
 -- src/lib.rt:1157:1

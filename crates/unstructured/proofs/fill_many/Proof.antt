@@ -66,7 +66,7 @@ slice-aggregate-fill-batches-6 c = search needs
 -- src/lib.rt:904:5
 fill-batches-requires : tie.Need-fill-batches-requires
 fill-batches-requires c κs = let s = c .before .before .before .before .before .before .before .before .before .before .before .before .before .before .before .before .before .before .before .before .before .before .before .before .before in
-    (record { edges = tabled _ _ _ _ (s .pre .0 .edges) (c .before .before .before .before .before .before .before .before .before .before .before .before .before .before .table-of .ensures); values = tabled-values _ _ _ (s .args .setup .reducer) (s .pre .0 .values) (c .before .before .before .before .before .before .before .before .before .before .before .before .before .value-table-of .ensures) }, (s .pre .1 .0, (s .pre .1 .1 .0, (s .pre .1 .1 .1, (search needs, record { distances = search needs; listed = search needs; bins = search needs; values = search needs })))))
+    (record { edges = tabled _ _ _ _ (s .pre .0 .edges) (c .before .before .before .before .before .before .before .before .before .before .before .before .before .before .table-of .ensures); values = tabled-values _ _ _ (s .args .setup .reducer) (s .pre .0 .values) (c .before .before .before .before .before .before .before .before .before .before .before .before .before .value-table-of .ensures); states = s .pre .0 .states }, (s .pre .1 .0, (s .pre .1 .1 .0, (s .pre .1 .1 .1, (search needs, record { distances = search needs; listed = search needs; bins = search needs; values = search needs })))))
 
 -- src/lib.rt:866:1
 same-length : tie.Need-same-length
