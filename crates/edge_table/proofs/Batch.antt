@@ -1,38 +1,33 @@
 -- Lookups of many values: each way through the code, the loops over a batch, and the edges' own bins.
-use mathlib.Core.Path.{_≡_, refl, sym, ap, _∙_, subst}
-use mathlib.Core.Logic.{⊎-elim}
+use mathlib.Core.Path.{_≡_, refl, sym, ap, _∙_}
 use mathlib.Core.Option.{Option, none, some}
-use mathlib.Core.Bool.{Bool, true, false, cond, _&&_, _||_, true≢false}
-use mathlib.Core.List.{List, [], _∷_, _++_, map, map-map, append-nil}
-use Prim.Native.Nat.{ℕ, zero, suc, _+_, _-_, _*_, _<_, _≤_}
+use mathlib.Core.Bool.{Bool, true, false, cond, _||_}
+use mathlib.Core.List.{List, [], _∷_, _++_, map, append-nil}
+use Prim.Native.Nat.{ℕ, suc, _+_, _-_, _*_, _^_, _<_, _≤_}
 use native.Mathlib.Numerals.{add-one}
-use native.Mathlib.Nat.{le-refl, le-of-lt, eq-or-lt-of-le}
 use native.Mathlib.Omega.{arith}
-use lib.Dec.{ltb, eqb, T}
-use lib.ListN.{length, getD, set, take, drop, drop-of-length-le, length-map}
-use lib.Seq.{drop-cons, append-snoc, take-suc-set, take-all, drop-set-lt}
-use lib.Ieee.{Float, lt, le, eq, level, isNan, nan, inf, fin, up, down, binary64, fits}
-use lib.Ieee.Scale.{finite}
+use lib.Dec.{ltb, T}
+use lib.ListN.{length, getD, set, take, drop, drop-of-length-le}
+use lib.Seq.{drop-cons, append-snoc, take-suc-set, take-all}
+use lib.Ieee.{Float, lt, le, isNan, nan, binary64, fits}
 use lib.Ieee.Bits.{is-true}
-use borrow.Author.Tests.{lt-ltb, le-ltb, le-leb, lt-leb, eq-eqb, ne-eqb, ltb-true, eqb-true}
+use borrow.Author.Tests.{lt-ltb, le-ltb, le-leb, lt-leb, eq-eqb, ne-eqb}
 use Rattle.definitions.specs.Lists.{at}
 use Rattle.definitions.specs.Floats.{asUsize}
 use Rattle.definitions.specs.Bins as definitions
 use Rattle.definitions.specs.Bins.{below}
 use Rattle.floats.specs.Order.{orderKey}
-use Rattle.floats.proofs.Keys.{key-mono, key-injective, sorted}
 use Rattle.bins.specs.declared.RegularBinEdges.{RegularBinEdges}
-use Rattle.bins.proofs.Irregular.{finite-at}
 use Rattle.reducer.specs.declared.BuiltEdges.{BuiltEdges}
 use Rattle.reducer.specs.declared.BuiltEdges.the-variants.{Regular, Irregular}
 use Rattle.reducer.specs.Consume as consume
 use Rattle.reducer.specs.Consume.{builtBins, builtFind, builtBin}
 use Rattle.reducer.proofs.Placewise.{below-again}
 use Rattle.edge_table.specs.declared.Table.{Table}
-use Rattle.edge_table.specs.Table.{placeOf, bit, numberOr, between, outsideOf, holds, stepUp, climb, located, locatedBin, hintFor, guessedBin, nearHint, hintedBin, quotient, isPast, numberFor, batchNumber, foundOf, numberIn}
-use Rattle.edge_table.specs.Tabled.{Searchable, Tabled}
-use Rattle.edge_table.proofs.Order.{lt-self, lt-finite, lt-not, lt-le, le-lt}
-use Rattle.edge_table.proofs.Lookup.{outside, none-outside, and-true, enclosed-bin, tested, held-bin, located-found}
+use Rattle.edge_table.specs.Table.{placeOf, bit, numberOr, between, outsideOf, holds, stepUp, climb, located, locatedBin, hintFor, guessedBin, nearHint, sureBin, hintedBin, quotient, isPast, numberFor, batchNumber, foundOf, numberIn}
+use Rattle.edge_table.specs.Tabled.{Tabled}
+use Rattle.edge_table.proofs.Order.{lt-not, lt-le}
+use Rattle.edge_table.proofs.Lookup.{outside, none-outside, tested, between-bin, held-bin, located-found}
 
 -- ---- the tests of a bin
 module _ (list : List Float) (x : Float) (h n : ℕ) (e : n ≡ length list - 1) where
@@ -87,16 +82,21 @@ module _ (list : List Float) (x : Float) where
   unfolding located
   located-many c d e r h p q s t = rw (lt-leb (length list) 33 h, ← p, ← q, ← s) t
 
--- ---- one value; g is the answer of `locate`, s and t of `is_held`
+-- ---- one value; g is the answer of `locate`, s of `is_between`, t of `is_held`
 module _ (list : List Float) (x : Float) (s : Bool) where
-  module _ (g : ℕ) (e : g ≡ located list x) (q : s ≡ holds list x g) where
-    pub located-right : s ≡ true → some g ≡ locatedBin list x
+  module _ (g : ℕ) (e : g ≡ located list x) (q : s ≡ between list x g) where
+    pub located-between : s ≡ true → some g ≡ locatedBin list x
     unfolding locatedBin
-    located-right h = rw (← e, ← q, h)
+    located-between h = rw (← e, ← q, h)
 
-    pub located-plain : (o : Option ℕ) → s ≡ false → o ≡ builtBin Irregular list x → o ≡ locatedBin list x
-    unfolding locatedBin
-    located-plain o h p = rw (← e, ← q, h) p
+    module _ (a : s ≡ false) (t : Bool) (k : t ≡ holds list x g) where
+      pub located-held : t ≡ true → some g ≡ locatedBin list x
+      unfolding locatedBin
+      located-held h = rw (← e, ← q, a, ← k, h)
+
+      pub located-plain : (o : Option ℕ) → t ≡ false → o ≡ builtBin Irregular list x → o ≡ locatedBin list x
+      unfolding locatedBin
+      located-plain o h p = rw (← e, ← q, a, ← k, h) p
 
 -- p is the value's place
 module _ (list : List Float) (hints : List ℕ) (table : Table) (x : Float) (p : ℕ) (e : p ≡ placeOf table x) where
@@ -138,15 +138,45 @@ module _ (list : List Float) (hints : List ℕ) (table : Table) (x : Float) (h g
       unfolding hintedBin guessedBin
       hinted-search v n c d z = rw (← e, ← r, ← q, a, ← o, b, ← p, c, ← d) z
 
--- p is the place, n how many bins there are; between its edges a value points to no other bin
-pub hinted-quick : (list : List Float) (hints : List ℕ) (table : Table) (x : Float) (p n : ℕ) → p ≡ placeOf table x → p < length hints → n ≡ length list - 1 → getD hints p 0 < n
-    → lt (at list (getD hints p 0)) x ≡ true → lt x (at list (getD hints p 0 + 1)) ≡ true → getD hints p 0 ≡ numberOr (hintedBin list hints table x)
-unfolding stepUp nearHint
-hinted-quick list hints table x p n e k f l a b =
-    let h = getD hints p 0 in
-    let z : h ≡ h + 0 = omega arith in
-    let r : h ≡ nearHint list x h = rw (lt-not (at list h) x a, lt-le x (at list (h + 1)) b) z in
-    hinted-right list hints table x h h (hint-is list hints table x p e k) r true (sym b ∙ between-is list x h n f l a) refl
+-- p is the place: without a hint there is a mark
+pub sure-none : (list : List Float) (hints : List ℕ) (table : Table) (x : Float) (p : ℕ) → p ≡ placeOf table x → length hints ≤ p → 2 ^ 64 - 1 ≡ sureBin list hints table x
+unfolding sureBin
+sure-none list hints table x p e l = rw (← e, le-ltb p (length hints) l)
+
+module _ (list : List Float) (hints : List ℕ) (table : Table) (x : Float) (p : ℕ) (e : p ≡ placeOf table x) (k : p < length hints) where
+  -- g is the answer of `near_hint`, s of `is_between`
+  module _ (g : ℕ) (r : g ≡ nearHint list x (getD hints p 0)) (s : Bool) (q : s ≡ between list x g) where
+    pub sure-right : s ≡ true → g ≡ sureBin list hints table x
+    unfolding sureBin
+    sure-right t = rw (← e, lt-ltb p (length hints) k, ← r, ← q, t)
+
+    pub sure-wrong : s ≡ false → 2 ^ 64 - 1 ≡ sureBin list hints table x
+    unfolding sureBin
+    sure-wrong t = rw (← e, lt-ltb p (length hints) k, ← r, ← q, t)
+
+  -- n is how many bins there are; between its edges a value points to no other bin
+  pub sure-quick : (n : ℕ) → n ≡ length list - 1 → getD hints p 0 < n → lt (at list (getD hints p 0)) x ≡ true → lt x (at list (getD hints p 0 + 1)) ≡ true → getD hints p 0 ≡ sureBin list hints table x
+  unfolding stepUp nearHint
+  sure-quick n f l a b =
+      let h = getD hints p 0 in
+      let z : h ≡ h + 0 = omega arith in
+      let r : h ≡ nearHint list x h = rw (lt-not (at list h) x a, lt-le x (at list (h + 1)) b) z in
+      sure-right h r true (sym b ∙ between-is list x h n f l a) refl
+
+-- what is no mark is what a lookup finds
+pub sure-hinted : (list : List Float) (hints : List ℕ) (table : Table) (x : Float) → sureBin list hints table x < 4096 → sureBin list hints table x ≡ numberOr (hintedBin list hints table x)
+unfolding sureBin hintedBin guessedBin hintFor
+sure-hinted list hints table x l = go (ltb (placeOf table x) (length hints)) l
+  where
+    go : (t : Bool) → cond t (let g = nearHint list x (getD hints (placeOf table x) 0) in cond (between list x g) g (2 ^ 64 - 1)) (2 ^ 64 - 1) < 4096
+        → cond t (let g = nearHint list x (getD hints (placeOf table x) 0) in cond (between list x g) g (2 ^ 64 - 1)) (2 ^ 64 - 1)
+        ≡ numberOr (guessedBin list table x (nearHint list x (cond t (getD hints (placeOf table x) 0) (located list x))))
+    go false k = absurd (omega (arith, k))
+    go true k = pick (nearHint list x (getD hints (placeOf table x) 0)) (between list x (nearHint list x (getD hints (placeOf table x) 0))) refl k
+      where
+        pick : (g : ℕ) (s : Bool) → between list x g ≡ s → cond s g (2 ^ 64 - 1) < 4096 → cond s g (2 ^ 64 - 1) ≡ numberOr (guessedBin list table x g)
+        pick g false e m = absurd (omega (arith, m))
+        pick g true e m = rw e
 
 -- ---- the loops: f of the first q values is stored
 module _ {B : Type 0} (f : Float → B) (x : List Float) (l : List B) (q : ℕ) (e : length l ≡ length x) (inv : map f x ≡ take q l ++ map f (drop q x)) where
@@ -179,56 +209,6 @@ module _ (inside : Bool) (edges : BuiltEdges) (list : List Float) (hints : List 
     found-regular e l t p = p ∙ (λ i. map (batchNumber inside (sym t i) list hints table) x) ∙ sym found-map
 
 -- ---- the edges' own bins
-finite-number : (x : Float) → T (finite x) → isNan x ≡ false
-unfolding isNan
-finite-number nan h = absurd h
-finite-number (inf s) h = absurd h
-finite-number (fin s m e) h = refl
-
-key-less : (x y : Float) → T (fits binary64 x) → T (fits binary64 y) → T (finite x) → T (finite y) → lt x y ≡ true → orderKey x < orderKey y
-key-less x y f g a b h =
-    ⊎-elim (λ (e : orderKey x ≡ orderKey y). absurd (true≢false (sym h ∙ ap (lt x) (sym (key-injective x y f g e)) ∙ lt-self x))) (λ (l : orderKey x < orderKey y). l)
-    (eq-or-lt-of-le (key-mono x y f g a b (subst T (sym h) tt)))
-
-module _ (es : List Float) (u : Searchable es) (x : Float) (f : fits binary64 x ≡ true) where
-  above-first : (g : ℕ) → g < length es - 1 → orderKey (at es g) < orderKey x → T (finite x) → lt x (at es 0) ≡ false
-  above-first g w l m = go (lt x (at es 0)) refl
-    where
-      go : (b : Bool) → lt x (at es 0) ≡ b → b ≡ false
-      go false e = refl
-      go true e =
-          absurd
-          (omega
-          (arith, l, sorted es (u .held) (u .finite) (u .increasing) 0 g (omega arith) (omega arith), key-less x (at es 0) (subst T (sym f) tt) (u .held 0) m (finite-at es 0 (u .finite) (omega arith)) e))
-
-  below-last : (g : ℕ) → g < length es - 1 → lt x (at es (g + 1)) ≡ true → T (finite x) → le (at es (length es - 1)) x ≡ false
-  below-last g w l m = go (le (at es (length es - 1)) x) refl
-    where
-      go : (b : Bool) → le (at es (length es - 1)) x ≡ b → b ≡ false
-      go false e = refl
-      go true e =
-          let n = length es - 1 in
-          let p = finite-at es n (u .finite) (omega arith) in
-          let q = finite-at es (g + 1) (u .finite) (omega arith) in
-          absurd
-          (omega
-          (arith, sorted es (u .held) (u .finite) (u .increasing) (g + 1) n (omega arith) (omega arith), key-less (at es n) (at es (g + 1)) (u .held n) (u .held (g + 1)) p q (le-lt (at es n) x (at es (g + 1)) p m q e l)))
-
-  -- strictly between two edges: inside the ends
-  between-bin : (g : ℕ) → between es x g ≡ true → some g ≡ builtBin Irregular es x
-  unfolding between
-  between-bin g c =
-      let p = and-true (ltb g (length es - 1)) (lt (at es g) x && lt x (at es (g + 1))) c in
-      let q = and-true (lt (at es g) x) (lt x (at es (g + 1))) (p .1) in
-      let w : g < length es - 1 = ltb-true _ _ (p .0) in
-      let a = finite-at es g (u .finite) (omega arith) in
-      let b = finite-at es (g + 1) (u .finite) (omega arith) in
-      let m = lt-finite (at es g) x (at es (g + 1)) a b (q .0) (q .1) in
-      let t : T (fits binary64 x) = subst T (sym f) tt in
-      let l = key-less (at es g) x (u .held g) t a m (q .0) in
-      let o : outside es x ≡ false = rw (finite-number x m, above-first g w l m, below-last g w (q .1) m) in
-      enclosed-bin es u x f g w (le-of-lt l) (key-less x (at es (g + 1)) t (u .held (g + 1)) m b (q .1)) o
-
 module _ (es : List Float) (hints : List ℕ) (table : Table) where
   hinted-found : (x : Float) → Tabled Irregular es table → fits binary64 x ≡ true → hintedBin es hints table x ≡ builtBin Irregular es x
   unfolding hintedBin guessedBin outsideOf

@@ -1,4 +1,4 @@
--- Quotients cut to whole numbers by guesses: a guess that is tested is the number, and the others are found later.
+-- Quotients cut to whole numbers by guesses that are tested; and loops over many values, of which the first marks what the second has to find.
 use mathlib.Core.Path.{_≡_, refl, sym, ap, _∙_, subst}
 use mathlib.Core.Logic.{⊎-elim}
 use mathlib.Core.Bool.{Bool, true, false, cond}
@@ -91,7 +91,7 @@ sure-whole q h l t =
     floor-is q h l (k .0) (subst (λ (y : Float). lt q y ≡ true) (total-add (pos h) (omega arith) one (omega arith)) (k .1))
 
 module _ (inside : Bool) (e : RegularBinEdges) where
-  sure-within : (x : Float) → sureNumber inside e x < 4096 → sureNumber inside e x ≡ numberFor inside e x
+  pub sure-within : (x : Float) → sureNumber inside e x < 4096 → sureNumber inside e x ≡ numberFor inside e x
   unfolding sureNumber numberFor
   sure-within x l = go (isSure q (guessOf q)) (isPast inside e x) refl l
     where
@@ -102,17 +102,6 @@ module _ (inside : Bool) (e : RegularBinEdges) where
       go false p t k = absurd (omega (arith, k))
       go true true t k = absurd (omega (arith, k))
       go true false t k = sure-whole q (guessOf q) (guess-small q) t
-
-  all-within : (x : List Float) → ((i : ℕ) → i < length x → getD (map (sureNumber inside e) x) i 0 < 4096) → map (sureNumber inside e) x ≡ map (numberFor inside e) x
-  all-within [] h = refl
-  all-within (v ∷ x) h = λ i. sure-within v (h 0 (omega arith)) i ∷ all-within x (λ j l. h (suc j) (omega arith)) i
-
-  -- none is left to settle
-  pub all-sure : (x : List Float) (l : List ℕ) (m : ℕ) → l ≡ map (sureNumber inside e) x → AtMost m l → m < 4096 → l ≡ map (numberFor inside e) x
-  all-sure x l m p h k =
-      p ∙ all-within x (λ i w.
-      let n : i < length l = omega (arith, w, ap length p, length-map x (sureNumber inside e)) in
-      subst (λ (y : List ℕ). getD y i 0 < 4096) p (omega (arith, h i n, k)))
 
 -- ---- the first loop: the bitwise or is at least each number so far
 or-left : (a b : ℕ) → a ≤ bitOr a b
@@ -140,19 +129,32 @@ module _ (f : Float → ℕ) (x : List Float) (l : List ℕ) (q : ℕ) (e : leng
   rest-next : (v : ℕ) → drop (q + 1) (set l q v) ≡ map f (drop (q + 1) x)
   rest-next v = drop-set-lt (q + 1) l q v (omega arith) ∙ rest-after
 
--- a turn of the second loop: a place that holds a number is left as it is
-module _ (inside : Bool) (e : RegularBinEdges) (x : List Float) (l : List ℕ) (q : ℕ) where
-  abbrev Settled : ℕ → List ℕ → Type 0
-  Settled i k = (i ≤ length x) × (length k ≡ length x) × (map (numberFor inside e) x ≡ take i k ++ map (numberFor inside e) (drop i x)) × (drop i k ≡ map (sureNumber inside e) (drop i x))
+-- f marks what g has to find: by a number of 4096 or more
+module _ (f g : Float → ℕ) (same : (x : Float) → f x < 4096 → f x ≡ g x) where
+  all-same : (x : List Float) → ((i : ℕ) → i < length x → getD (map f x) i 0 < 4096) → map f x ≡ map g x
+  all-same [] h = refl
+  all-same (v ∷ x) h = λ i. same v (h 0 (omega arith)) i ∷ all-same x (λ j l. h (suc j) (omega arith)) i
 
-  module _ (s : Settled q l) (h : q < length x) where
-    turn-set : (v : ℕ) → v ≡ numberFor inside e (at x q) → Settled (q + 1) (set l q v)
-    turn-set v w = (omega arith, length-set l q v ∙ s .1, map-next (numberFor inside e) x l q (s .1) (s .2) v h w, rest-next (sureNumber inside e) x l q (s .1) (s .3) h v)
+  -- nothing is marked
+  pub none-left : (x : List Float) (l : List ℕ) (m : ℕ) → l ≡ map f x → AtMost m l → m < 4096 → l ≡ map g x
+  none-left x l m p h k =
+      p ∙ all-same x (λ i w.
+      let n : i < length l = omega (arith, w, ap length p, length-map x f) in
+      subst (λ (y : List ℕ). getD y i 0 < 4096) p (omega (arith, h i n, k)))
 
-    pub turn-settled : (k : List ℕ) (v : ℕ) → k ≡ set l q v → v ≡ numberFor inside e (at x q) → Settled (q + 1) k
-    turn-settled k v z w = subst (Settled (q + 1)) (sym z) (turn-set v w)
+  -- a turn of the second loop: a place that holds a number is left as it is
+  module _ (x : List Float) (l : List ℕ) (q : ℕ) where
+    abbrev Settled : ℕ → List ℕ → Type 0
+    Settled i k = (i ≤ length x) × (length k ≡ length x) × (map g x ≡ take i k ++ map g (drop i x)) × (drop i k ≡ map f (drop i x))
 
-    pub turn-left : (k : List ℕ) → k ≡ l → getD l q 0 < 4096 → Settled (q + 1) k
-    turn-left k z w =
-        let r = rest-here (sureNumber inside e) x l q (s .1) (s .3) h in
-        turn-settled k (getD l q 0) (z ∙ sym (set-getD l q 0)) (r ∙ sure-within inside e (at x q) (subst (λ (b : ℕ). b < 4096) r w))
+    module _ (s : Settled q l) (h : q < length x) where
+      turn-set : (v : ℕ) → v ≡ g (at x q) → Settled (q + 1) (set l q v)
+      turn-set v w = (omega arith, length-set l q v ∙ s .1, map-next g x l q (s .1) (s .2) v h w, rest-next f x l q (s .1) (s .3) h v)
+
+      pub turn-settled : (k : List ℕ) (v : ℕ) → k ≡ set l q v → v ≡ g (at x q) → Settled (q + 1) k
+      turn-settled k v z w = subst (Settled (q + 1)) (sym z) (turn-set v w)
+
+      pub turn-left : (k : List ℕ) → k ≡ l → getD l q 0 < 4096 → Settled (q + 1) k
+      turn-left k z w =
+          let r = rest-here f x l q (s .1) (s .3) h in
+          turn-settled k (getD l q 0) (z ∙ sym (set-getD l q 0)) (r ∙ same (at x q) (subst (λ (b : ℕ). b < 4096) r w))

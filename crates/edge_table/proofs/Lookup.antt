@@ -1,14 +1,16 @@
 -- A table of accepted edges finds the edges' own bins.
 use mathlib.Core.Path.{_≡_, refl, sym, ap, subst, _∙_}
+use mathlib.Core.Logic.{⊎-elim}
 use mathlib.Core.Option.{Option, none, some}
 use mathlib.Core.Bool.{Bool, true, false, cond, not, _&&_, _||_, true≢false}
 use mathlib.Core.List.{List, _∷_}
 use Prim.Native.Nat.{ℕ, _+_, _-_, _<_, _≤_}
-use native.Mathlib.Nat.{le-refl}
+use native.Mathlib.Nat.{le-refl, le-of-lt, eq-or-lt-of-le}
 use native.Mathlib.Omega.{arith}
 use lib.Dec.{T, leb, ltb}
 use lib.ListN.{length}
-use lib.Ieee.{Float, binary64, lt, le, isNan, fits}
+use lib.Ieee.{Float, binary64, lt, le, isNan, nan, inf, fin, fits}
+use lib.Ieee.Scale.{finite}
 use borrow.Author.Tests.{lt-ltb, le-leb, lt-leb, ltb-true, ltb-false, leb-true}
 use Rattle.definitions.specs.Lists.{at}
 use Rattle.definitions.specs.Floats.{notAfter}
@@ -17,8 +19,8 @@ use Rattle.definitions.specs.Bins.{regularIndex, irregularIndex, lastEdge, belo
 use Rattle.definitions.specs.Reducer.{stateKind}
 use Rattle.definitions.specs.Rules.{refusal, rule, edgesCallRules, kindRules, overState, allFinite, increasing}
 use Rattle.floats.specs.Order.{orderKey}
-use Rattle.floats.proofs.Keys.{key-order, sorted}
-use Rattle.bins.proofs.Irregular.{halves-at}
+use Rattle.floats.proofs.Keys.{key-order, key-mono, key-injective, sorted}
+use Rattle.bins.proofs.Irregular.{halves-at, finite-at}
 use Rattle.reducer.specs.declared.Edges.{Edges}
 use Rattle.reducer.specs.declared.Edges.the-variants as edges
 use Rattle.reducer.specs.declared.Kind.{Kind}
@@ -30,8 +32,9 @@ use Rattle.reducer.specs.declared.Reducer.the-variants.{Comp0Mean, ComponentSum
 use Rattle.reducer.specs.Readings.{edgesOf, kindOf}
 use Rattle.reducer.specs.Consume.{madeEdges, made, builtBin}
 use Rattle.edge_table.specs.declared.Table.{Table}
-use Rattle.edge_table.specs.Table.{tableOf, holds, located, locatedBin, outsideOf, edgeBin, tableBin, valueTableOf}
+use Rattle.edge_table.specs.Table.{tableOf, between, holds, located, locatedBin, outsideOf, edgeBin, tableBin, valueTableOf}
 use Rattle.edge_table.specs.Tabled.{Searchable, Usable, EndsOf, Tabled, UsableValues, TabledValues}
+use Rattle.edge_table.proofs.Order.{lt-self, lt-finite, le-lt}
 
 -- ---- a value outside the ends has no bin
 low-none : (a b c : Bool) (o : Option ℕ) → b ≡ true → none ≡ cond (a || b || c) none o
@@ -98,7 +101,58 @@ pub none-outside : (es : List Float) (x : Float) → outside es x ≡ true → n
 unfolding builtBin irregularIndex
 none-outside es x v = rw v
 
--- a number is not outside the ends
+-- ---- a bin strictly between whose edges the value is
+finite-number : (x : Float) → T (finite x) → isNan x ≡ false
+unfolding isNan
+finite-number nan h = absurd h
+finite-number (inf s) h = absurd h
+finite-number (fin s m e) h = refl
+
+key-less : (x y : Float) → T (fits binary64 x) → T (fits binary64 y) → T (finite x) → T (finite y) → lt x y ≡ true → orderKey x < orderKey y
+key-less x y f g a b h =
+    ⊎-elim (λ (e : orderKey x ≡ orderKey y). absurd (true≢false (sym h ∙ ap (lt x) (sym (key-injective x y f g e)) ∙ lt-self x))) (λ (l : orderKey x < orderKey y). l)
+    (eq-or-lt-of-le (key-mono x y f g a b (subst T (sym h) tt)))
+
+module _ (es : List Float) (u : Searchable es) (x : Float) (f : fits binary64 x ≡ true) where
+  above-first : (g : ℕ) → g < length es - 1 → orderKey (at es g) < orderKey x → T (finite x) → lt x (at es 0) ≡ false
+  above-first g w l m = go (lt x (at es 0)) refl
+    where
+      go : (b : Bool) → lt x (at es 0) ≡ b → b ≡ false
+      go false e = refl
+      go true e =
+          absurd
+          (omega
+          (arith, l, sorted es (u .held) (u .finite) (u .increasing) 0 g (omega arith) (omega arith), key-less x (at es 0) (subst T (sym f) tt) (u .held 0) m (finite-at es 0 (u .finite) (omega arith)) e))
+
+  below-last : (g : ℕ) → g < length es - 1 → lt x (at es (g + 1)) ≡ true → T (finite x) → le (at es (length es - 1)) x ≡ false
+  below-last g w l m = go (le (at es (length es - 1)) x) refl
+    where
+      go : (b : Bool) → le (at es (length es - 1)) x ≡ b → b ≡ false
+      go false e = refl
+      go true e =
+          let n = length es - 1 in
+          let p = finite-at es n (u .finite) (omega arith) in
+          let q = finite-at es (g + 1) (u .finite) (omega arith) in
+          absurd
+          (omega
+          (arith, sorted es (u .held) (u .finite) (u .increasing) (g + 1) n (omega arith) (omega arith), key-less (at es n) (at es (g + 1)) (u .held n) (u .held (g + 1)) p q (le-lt (at es n) x (at es (g + 1)) p m q e l)))
+
+  -- strictly between two edges: inside the ends
+  pub between-bin : (g : ℕ) → between es x g ≡ true → some g ≡ builtBin Irregular es x
+  unfolding between
+  between-bin g c =
+      let p = and-true (ltb g (length es - 1)) (lt (at es g) x && lt x (at es (g + 1))) c in
+      let q = and-true (lt (at es g) x) (lt x (at es (g + 1))) (p .1) in
+      let w : g < length es - 1 = ltb-true _ _ (p .0) in
+      let a = finite-at es g (u .finite) (omega arith) in
+      let b = finite-at es (g + 1) (u .finite) (omega arith) in
+      let m = lt-finite (at es g) x (at es (g + 1)) a b (q .0) (q .1) in
+      let t : T (fits binary64 x) = subst T (sym f) tt in
+      let l = key-less (at es g) x (u .held g) t a m (q .0) in
+      let o : outside es x ≡ false = rw (finite-number x m, above-first g w l m, below-last g w (q .1) m) in
+      enclosed-bin es u x f g w (le-of-lt l) (key-less x (at es (g + 1)) t (u .held (g + 1)) m b (q .1)) o
+
+-- ---- the search by quarters: a number is not outside the ends
 module _ (es : List Float) (u : Searchable es) (x : Float) (f : fits binary64 x ≡ true) (inside : isNan x ≡ false → outside es x ≡ false) where
   pub held-bin : (g : ℕ) → holds es x g ≡ true → some g ≡ builtBin Irregular es x
   unfolding holds
@@ -110,7 +164,7 @@ module _ (es : List Float) (u : Searchable es) (x : Float) (f : fits binary64 x 
 
   pub located-found : locatedBin es x ≡ builtBin Irregular es x
   unfolding locatedBin
-  located-found = tested (holds es x (located es x)) (located es x) _ _ (held-bin (located es x)) refl
+  located-found = tested (between es x (located es x)) (located es x) _ _ (between-bin es u x f (located es x)) (tested (holds es x (located es x)) (located es x) _ _ (held-bin (located es x)) refl)
 
 -- ---- a table's edges
 module _ (es : List Float) (x : Float) (f : fits binary64 x ≡ true) (table : Table) where

@@ -63,6 +63,10 @@ abbrev pub bit : Bool → ℕ
 bit true = 1
 bit false = 0
 
+-- strictly between the edges of bin h
+unfoldable pub between : List Float → Float → ℕ → Bool
+between list x h = ltb h (length list - 1) && (lt (at list h) x && lt x (at list (h + 1)))
+
 -- x is a number, and the keys of bin h's edges enclose its own
 unfoldable pub holds : List Float → Float → ℕ → Bool
 holds list x h = not (isNan x) && ltb h (length list - 1) && leb (orderKey (at list h)) (orderKey x) && ltb (orderKey x) (orderKey (at list (h + 1)))
@@ -80,9 +84,9 @@ unfoldable pub located : List Float → Float → ℕ
 located list x =
     cond (leb (length list) 33) (climb list x 2 (climb list x 8 0) + stepUp list x (climb list x 2 (climb list x 8 0) + 1) 1) (climb list x 1 (climb list x 4 (climb list x 16 (climb list x 64 0))))
 
--- what the search by quarters finds, where it holds the value; else the plain lookup
+-- what the search by quarters finds, tested by the edges, then by the keys; else the plain lookup
 unfoldable pub locatedBin : List Float → Float → Option ℕ
-locatedBin list x = cond (holds list x (located list x)) (some (located list x)) (builtBin Irregular list x)
+locatedBin list x = cond (between list x (located list x)) (some (located list x)) (cond (holds list x (located list x)) (some (located list x)) (builtBin Irregular list x))
 
 unfoldable pub outsideOf : Table → Float → Bool
 outsideOf table x = isNan x || lt x (table .first) || le (table .last) x
@@ -129,10 +133,6 @@ abbrev pub AtMost : ℕ → List ℕ → Type 0
 AtMost m l = (i : ℕ) → i < length l → getD l i 0 ≤ m
 
 -- ---- irregular edges, by hints
--- strictly between the edges of bin h
-unfoldable pub between : List Float → Float → ℕ → Bool
-between list x h = ltb h (length list - 1) && (lt (at list h) x && lt x (at list (h + 1)))
-
 -- the hint at the value's place; where there is none, what the search by quarters finds
 unfoldable pub hintFor : List Float → List ℕ → Table → Float → ℕ
 hintFor list hints table x = cond (ltb (placeOf table x) (length hints)) (getD hints (placeOf table x) 0) (located list x)
@@ -144,6 +144,11 @@ guessedBin list table x g = cond (between list x g) (some g) (cond (outsideOf ta
 -- h, or the bin beside it to which the value points
 unfoldable pub nearHint : List Float → Float → ℕ → ℕ
 nearHint list x h = cond (lt x (at list h)) (h - 1) (h + stepUp list x (h + 1) 1)
+
+-- the same tested by the edges alone; a mark past every bin where there is no hint or the test fails
+unfoldable pub sureBin : List Float → List ℕ → Table → Float → ℕ
+sureBin list hints table x =
+    cond (ltb (placeOf table x) (length hints)) (let g = nearHint list x (getD hints (placeOf table x) 0) in cond (between list x g) g (2 ^ 64 - 1)) (2 ^ 64 - 1)
 
 unfoldable pub hintedBin : List Float → List ℕ → Table → Float → Option ℕ
 hintedBin list hints table x = guessedBin list table x (nearHint list x (hintFor list hints table x))

@@ -10,7 +10,7 @@ ghost use lib.ListN.{length, getD};
 ghost use Rattle.definitions.specs.Lists.{at};
 ghost use Rattle.floats.specs.Order.{orderKey};
 ghost use Rattle.bins.specs.Answers.{indexOf};
-ghost use Rattle.edge_table.specs.Table.{tableOf, placeOf, edgePlace, endOf, spread, binHinted, hintsOf, hintsFor, outsideOf, edgeBin, tableBin, noTable, valueTableOf, valueHintsFor, numberOr, guessOf, isSure, isPast, numberFor, sureNumber, AtMost, between, holds, stepUp, climb, located, locatedBin, hintFor, nearHint, hintedBin, foundOf};
+ghost use Rattle.edge_table.specs.Table.{tableOf, placeOf, edgePlace, endOf, spread, binHinted, hintsOf, hintsFor, outsideOf, edgeBin, tableBin, noTable, valueTableOf, valueHintsFor, numberOr, guessOf, isSure, isPast, numberFor, sureNumber, AtMost, sureBin, between, holds, stepUp, climb, located, locatedBin, hintFor, nearHint, hintedBin, foundOf};
 
 // Ends of the edges; a value's place of hints is scale times it plus offset.
 pub struct Table {
@@ -134,6 +134,19 @@ pub fn fill_hints(edges: BuiltEdges, list: &[f64], table: Table, hints: &mut [u8
 
 // ---- lookups
 
+fn is_between(list: &[f64], x: f64, h: usize) -> bool
+    ensures { λ r. ⌜ r ≡ between (now (list .entry)) x h ⌝ }
+{
+    let n = reducer::n_bins(BuiltEdges::Irregular, list.len());
+    if h >= n {
+        return false;
+    }
+    if list[h] < x {
+        return x < list[h + 1];
+    }
+    false
+}
+
 fn is_held(list: &[f64], x: f64, h: usize) -> bool
     ensures { λ r. ⌜ r ≡ holds (now (list .entry)) x h ⌝ }
 {
@@ -189,6 +202,9 @@ fn located_bin(list: &[f64], x: f64) -> BinIndex
     ensures { λ r. ⌜ indexOf r ≡ locatedBin (now (list .entry)) x ⌝ }
 {
     let h = locate(list, x);
+    if is_between(list, x, h) {
+        return BinIndex::At(h);
+    }
     if is_held(list, x, h) {
         return BinIndex::At(h);
     }
@@ -229,19 +245,6 @@ pub fn bin_of(edges: BuiltEdges, list: &[f64], table: Table, value: f64) -> BinI
 }
 
 // ---- lookups of many values
-
-fn is_between(list: &[f64], x: f64, h: usize) -> bool
-    ensures { λ r. ⌜ r ≡ between (now (list .entry)) x h ⌝ }
-{
-    let n = reducer::n_bins(BuiltEdges::Irregular, list.len());
-    if h >= n {
-        return false;
-    }
-    if list[h] < x {
-        return x < list[h + 1];
-    }
-    false
-}
 
 fn number_of(bin: BinIndex) -> usize
     ensures { λ r. ⌜ r ≡ numberOr (indexOf bin) ⌝ }
@@ -293,36 +296,68 @@ fn hinted_bin(list: &[f64], hints: &[u8], table: Table, x: f64) -> usize
     number_of(located_bin(list, x))
 }
 
-// The same, with the way that most values take in front.
-fn quick_bin(list: &[f64], hints: &[u8], table: Table, x: f64) -> usize
-    ensures { λ r. ⌜ r ≡ numberOr (hintedBin (now (list .entry)) (now (hints .entry)) table x) ⌝ }
+// The hint's bin or the one beside it where the edges show that it holds the value, else the largest usize; in most lookups the first way out.
+fn sure_bin(list: &[f64], hints: &[u8], table: Table, x: f64) -> usize
+    ensures { λ r. ⌜ r ≡ sureBin (now (list .entry)) (now (hints .entry)) table x ⌝ }
 {
     let n = reducer::n_bins(BuiltEdges::Irregular, list.len());
-    let place = x * table.scale + table.offset;
-    if !floats::is_nan(place) {
-        let q = (f64::to_bits(place) % 4096) as usize;
-        if q < hints.len() {
-            let h = hints[q] as usize;
-            if h < n {
-                if list[h] < x {
-                    if x < list[h + 1] {
-                        return h;
-                    }
-                }
+    let q = place_of(table, x);
+    if q >= hints.len() {
+        return usize::MAX;
+    }
+    let h = hints[q] as usize;
+    if h < n {
+        if list[h] < x {
+            if x < list[h + 1] {
+                return h;
             }
         }
     }
-    hinted_bin(list, hints, table, x)
+    let g = near_hint(list, x, h);
+    if is_between(list, x, g) {
+        g
+    } else {
+        usize::MAX
+    }
+}
+
+// No call in the loop, so that all it reads stays in registers. What it returns is at least each number.
+fn sure_bins(list: &[f64], hints: &[u8], table: Table, x: &[f64], found: &mut [usize]) -> usize
+    requires { ⌜ length (now found) ≡ length (now x) ⌝ }
+    ensures { λ r. ⌜ (now (found .exit) ≡ map (sureBin (now (list .entry)) (now (hints .entry)) table) (now (x .entry))) × AtMost r (now (found .exit)) ⌝ }
+{
+    let mut all = 0;
+    let mut q = 0;
+    while q < x.len() {
+        let number = sure_bin(list, hints, table, x[q]);
+        found[q] = number;
+        all = all | number;
+        q += 1;
+    }
+    all
+}
+
+// Searches what no hint has found.
+fn settle_bins(list: &[f64], hints: &[u8], table: Table, x: &[f64], found: &mut [usize])
+    requires { ⌜ length (now found) ≡ length (now x) ⌝ ∗ ⌜ now found ≡ map (sureBin (now list) (now hints) table) (now x) ⌝ }
+    ensures { λ _. ⌜ now (found .exit) ≡ map (λ v. numberOr (hintedBin (now (list .entry)) (now (hints .entry)) table v)) (now (x .entry)) ⌝ }
+{
+    let mut q = 0;
+    while q < x.len() {
+        if found[q] >= 4096 {
+            found[q] = hinted_bin(list, hints, table, x[q]);
+        }
+        q += 1;
+    }
 }
 
 fn hinted_bins(list: &[f64], hints: &[u8], table: Table, x: &[f64], found: &mut [usize])
     requires { ⌜ length (now found) ≡ length (now x) ⌝ }
     ensures { λ _. ⌜ now (found .exit) ≡ map (λ v. numberOr (hintedBin (now (list .entry)) (now (hints .entry)) table v)) (now (x .entry)) ⌝ }
 {
-    let mut q = 0;
-    while q < x.len() {
-        found[q] = quick_bin(list, hints, table, x[q]);
-        q += 1;
+    let all = sure_bins(list, hints, table, x, &mut *found);
+    if all >= 4096 {
+        settle_bins(list, hints, table, x, found);
     }
 }
 
@@ -401,7 +436,7 @@ fn sure_numbers(inside: bool, e: RegularBinEdges, x: &[f64], found: &mut [usize]
 }
 
 // Finds what no guess has found.
-fn settle_all(inside: bool, e: RegularBinEdges, x: &[f64], found: &mut [usize])
+fn settle_numbers(inside: bool, e: RegularBinEdges, x: &[f64], found: &mut [usize])
     requires { ⌜ length (now found) ≡ length (now x) ⌝ ∗ ⌜ now found ≡ map (sureNumber inside e) (now x) ⌝ }
     ensures { λ _. ⌜ now (found .exit) ≡ map (numberFor inside e) (now (x .entry)) ⌝ }
 {
@@ -421,7 +456,7 @@ fn numbers_for(inside: bool, e: RegularBinEdges, x: &[f64], found: &mut [usize])
 {
     let all = sure_numbers(inside, e, x, &mut *found);
     if all >= 4096 {
-        settle_all(inside, e, x, found);
+        settle_numbers(inside, e, x, found);
     }
 }
 

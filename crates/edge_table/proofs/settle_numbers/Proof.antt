@@ -6,11 +6,11 @@ use Prim.Native.Nat.{_-_, _≤_, zero-le}
 use mathlib.Core.List.{_++_, map}
 use Rattle.edge_table.specs.Table.{numberFor, sureNumber}
 use Rattle.edge_table.proofs.Batch.{map-done}
-use Rattle.edge_table.proofs.Cuts.{turn-settled, turn-left}
-use Rattle.edge_table.proofs.settle_all.Statement.{statement}
-use Rattle.edge_table.proofs.settle_all.Tie as tie
-use Rattle.edge_table.proofs.settle_all.Reads as reads
-use Rattle.edge_table.proofs.settle_all.Lts as lts
+use Rattle.edge_table.proofs.Cuts.{sure-within, turn-settled, turn-left}
+use Rattle.edge_table.proofs.settle_numbers.Statement.{statement}
+use Rattle.edge_table.proofs.settle_numbers.Tie as tie
+use Rattle.edge_table.proofs.settle_numbers.Reads as reads
+use Rattle.edge_table.proofs.settle_numbers.Lts as lts
 use Rattle.edge_table.proofs.number_for.Reads as number-for-reads
 
 abbrev Inv-loop : tie.InvT-loop
@@ -64,7 +64,7 @@ loop-again : tie.Need-loop-again Inv-loop μ-loop
 loop-again c =
     let t = c .before .before .before .loop in
     let h = c .before .before .loop-test .taken in
-    ⊎-elim (λ w. turn-settled _ _ _ _ _ (t .inv) h _ _ (w .3) (w .2 .ensures)) (λ w. turn-left _ _ _ _ _ (t .inv) h _ (w .1) (w .0 .left)) (c .if1 .came)
+    ⊎-elim (λ w. turn-settled _ _ (sure-within _ _) _ _ _ (t .inv) h _ _ (w .3) (w .2 .ensures)) (λ w. turn-left _ _ (sure-within _ _) _ _ _ (t .inv) h _ (w .1) (w .0 .left)) (c .if1 .came)
 
 -- src/lib.rt:403:1
 same-length : tie.Need-same-length Inv-loop μ-loop
@@ -74,8 +74,8 @@ same-length c = search needs
 returns : tie.Need-returns Inv-loop μ-loop
 returns c = search map-done
 
-pub settle-all-spec : {M : Type 1} → statement M
-settle-all-spec =
+pub settle-numbers-spec : {M : Type 1} → statement M
+settle-numbers-spec =
     tie.close
     (tie.spec
     Inv-loop
