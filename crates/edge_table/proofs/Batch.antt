@@ -1,7 +1,7 @@
 -- Lookups of many values: each way through the code, the loops over a batch, and the edges' own bins.
 use mathlib.Core.Path.{_≡_, refl, sym, ap, _∙_}
 use mathlib.Core.Option.{Option, none, some}
-use mathlib.Core.Bool.{Bool, true, false, cond, _||_}
+use mathlib.Core.Bool.{Bool, true, false, cond, not, _||_}
 use mathlib.Core.List.{List, [], _∷_, _++_, map, append-nil}
 use Prim.Native.Nat.{ℕ, suc, _+_, _-_, _*_, _^_, _<_, _≤_}
 use native.Mathlib.Numerals.{add-one}
@@ -24,7 +24,7 @@ use Rattle.reducer.specs.Consume as consume
 use Rattle.reducer.specs.Consume.{builtBins, builtFind, builtBin}
 use Rattle.reducer.proofs.Placewise.{below-again}
 use Rattle.edge_table.specs.declared.Table.{Table}
-use Rattle.edge_table.specs.Table.{placeOf, bit, numberOr, between, outsideOf, holds, stepUp, climb, located, locatedBin, hintFor, guessedBin, nearHint, sureBin, hintedBin, quotient, isPast, numberFor, batchNumber, foundOf, numberIn}
+use Rattle.edge_table.specs.Table.{spot, placeOf, bit, numberOr, between, outsideOf, holds, stepUp, climb, located, locatedBin, hintFor, guessedBin, nearHint, sureBin, hintedBin, quotient, isPast, numberFor, batchNumber, foundOf, numberIn}
 use Rattle.edge_table.specs.Tabled.{Tabled}
 use Rattle.edge_table.proofs.Order.{lt-not, lt-le}
 use Rattle.edge_table.proofs.Lookup.{outside, none-outside, tested, between-bin, held-bin, located-found}
@@ -138,45 +138,51 @@ module _ (list : List Float) (hints : List ℕ) (table : Table) (x : Float) (h g
       unfolding hintedBin guessedBin
       hinted-search v n c d z = rw (← e, ← r, ← q, a, ← o, b, ← p, c, ← d) z
 
--- p is the place: without a hint there is a mark
-pub sure-none : (list : List Float) (hints : List ℕ) (table : Table) (x : Float) (p : ℕ) → p ≡ placeOf table x → length hints ≤ p → 2 ^ 64 - 1 ≡ sureBin list hints table x
-unfolding sureBin
-sure-none list hints table x p e l = rw (← e, le-ltb p (length hints) l)
+-- r is the answer of `is_nan`, p the place
+module _ (list : List Float) (hints : List ℕ) (table : Table) (x : Float) (r : Bool) (er : r ≡ isNan (spot table x)) where
+  pub sure-nan : r ≡ true → 2 ^ 64 - 1 ≡ sureBin list hints table x
+  unfolding sureBin
+  sure-nan t = rw (← er, t)
 
-module _ (list : List Float) (hints : List ℕ) (table : Table) (x : Float) (p : ℕ) (e : p ≡ placeOf table x) (k : p < length hints) where
-  -- g is the answer of `near_hint`, s of `is_between`
-  module _ (g : ℕ) (r : g ≡ nearHint list x (getD hints p 0)) (s : Bool) (q : s ≡ between list x g) where
-    pub sure-right : s ≡ true → g ≡ sureBin list hints table x
+  module _ (n : r ≡ false) (p : ℕ) (e : p ≡ placeOf table x) where
+    pub sure-none : length hints ≤ p → 2 ^ 64 - 1 ≡ sureBin list hints table x
     unfolding sureBin
-    sure-right t = rw (← e, lt-ltb p (length hints) k, ← r, ← q, t)
+    sure-none l = rw (← er, n, ← e, le-ltb p (length hints) l)
 
-    pub sure-wrong : s ≡ false → 2 ^ 64 - 1 ≡ sureBin list hints table x
-    unfolding sureBin
-    sure-wrong t = rw (← e, lt-ltb p (length hints) k, ← r, ← q, t)
+    module _ (k : p < length hints) where
+      -- g is the answer of `near_hint`, s of `is_between`
+      module _ (g : ℕ) (v : g ≡ nearHint list x (getD hints p 0)) (s : Bool) (q : s ≡ between list x g) where
+        pub sure-right : s ≡ true → g ≡ sureBin list hints table x
+        unfolding sureBin
+        sure-right t = rw (← er, n, ← e, lt-ltb p (length hints) k, ← v, ← q, t)
 
-  -- n is how many bins there are; between its edges a value points to no other bin
-  pub sure-quick : (n : ℕ) → n ≡ length list - 1 → getD hints p 0 < n → lt (at list (getD hints p 0)) x ≡ true → lt x (at list (getD hints p 0 + 1)) ≡ true → getD hints p 0 ≡ sureBin list hints table x
-  unfolding stepUp nearHint
-  sure-quick n f l a b =
-      let h = getD hints p 0 in
-      let z : h ≡ h + 0 = omega arith in
-      let r : h ≡ nearHint list x h = rw (lt-not (at list h) x a, lt-le x (at list (h + 1)) b) z in
-      sure-right h r true (sym b ∙ between-is list x h n f l a) refl
+        pub sure-wrong : s ≡ false → 2 ^ 64 - 1 ≡ sureBin list hints table x
+        unfolding sureBin
+        sure-wrong t = rw (← er, n, ← e, lt-ltb p (length hints) k, ← v, ← q, t)
+
+      -- m is how many bins there are; between its edges a value points to no other bin
+      pub sure-quick : (m : ℕ) → m ≡ length list - 1 → getD hints p 0 < m → lt (at list (getD hints p 0)) x ≡ true → lt x (at list (getD hints p 0 + 1)) ≡ true → getD hints p 0 ≡ sureBin list hints table x
+      unfolding stepUp nearHint
+      sure-quick m f l a b =
+          let h = getD hints p 0 in
+          let z : h ≡ h + 0 = omega arith in
+          let u : h ≡ nearHint list x h = rw (lt-not (at list h) x a, lt-le x (at list (h + 1)) b) z in
+          sure-right h u true (sym b ∙ between-is list x h m f l a) refl
 
 -- what is no mark is what a lookup finds
 pub sure-hinted : (list : List Float) (hints : List ℕ) (table : Table) (x : Float) → sureBin list hints table x < 4096 → sureBin list hints table x ≡ numberOr (hintedBin list hints table x)
 unfolding sureBin hintedBin guessedBin hintFor
-sure-hinted list hints table x l = go (ltb (placeOf table x) (length hints)) l
+sure-hinted list hints table x l = go (isNan (spot table x)) (ltb (placeOf table x) (length hints)) (nearHint list x (getD hints (placeOf table x) 0)) refl l
   where
-    go : (t : Bool) → cond t (let g = nearHint list x (getD hints (placeOf table x) 0) in cond (between list x g) g (2 ^ 64 - 1)) (2 ^ 64 - 1) < 4096
-        → cond t (let g = nearHint list x (getD hints (placeOf table x) 0) in cond (between list x g) g (2 ^ 64 - 1)) (2 ^ 64 - 1)
-        ≡ numberOr (guessedBin list table x (nearHint list x (cond t (getD hints (placeOf table x) 0) (located list x))))
-    go false k = absurd (omega (arith, k))
-    go true k = pick (nearHint list x (getD hints (placeOf table x) 0)) (between list x (nearHint list x (getD hints (placeOf table x) 0))) refl k
+    go : (a b : Bool) (g : ℕ) → g ≡ nearHint list x (getD hints (placeOf table x) 0) → cond (a || not b || not (between list x g)) (2 ^ 64 - 1) g < 4096
+        → cond (a || not b || not (between list x g)) (2 ^ 64 - 1) g ≡ numberOr (guessedBin list table x (nearHint list x (cond b (getD hints (placeOf table x) 0) (located list x))))
+    go true b g e k = absurd (omega (arith, k))
+    go false false g e k = absurd (omega (arith, k))
+    go false true g e k = pick (between list x g) refl k ∙ ap (λ (y : ℕ). numberOr (guessedBin list table x y)) e
       where
-        pick : (g : ℕ) (s : Bool) → between list x g ≡ s → cond s g (2 ^ 64 - 1) < 4096 → cond s g (2 ^ 64 - 1) ≡ numberOr (guessedBin list table x g)
-        pick g false e m = absurd (omega (arith, m))
-        pick g true e m = rw e
+        pick : (s : Bool) → between list x g ≡ s → cond (not s) (2 ^ 64 - 1) g < 4096 → cond (not s) (2 ^ 64 - 1) g ≡ numberOr (guessedBin list table x g)
+        pick false u m = absurd (omega (arith, m))
+        pick true u m = rw u
 
 -- ---- the loops: f of the first q values is stored
 module _ {B : Type 0} (f : Float → B) (x : List Float) (l : List B) (q : ℕ) (e : length l ≡ length x) (inv : map f x ≡ take q l ++ map f (drop q x)) where

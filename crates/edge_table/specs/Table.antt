@@ -27,8 +27,11 @@ tableOf Irregular list span =
 
 -- ---- hints
 -- the value's place: with 2^52 in the offset the sum is rounded to a whole number, which the low bits then hold
+abbrev pub spot : Table → Float → Float
+spot table x = add binary64 (mul binary64 x (table .scale)) (table .offset)
+
 unfoldable pub placeOf : Table → Float → ℕ
-placeOf table x = toBits binary64 (add binary64 (mul binary64 x (table .scale)) (table .offset)) % 4096
+placeOf table x = toBits binary64 (spot table x) % 4096
 
 -- an edge's: half a place on, so the first whose middle is not below it
 unfoldable pub edgePlace : Table → Float → ℕ
@@ -145,10 +148,12 @@ guessedBin list table x g = cond (between list x g) (some g) (cond (outsideOf ta
 unfoldable pub nearHint : List Float → Float → ℕ → ℕ
 nearHint list x h = cond (lt x (at list h)) (h - 1) (h + stepUp list x (h + 1) 1)
 
--- the same tested by the edges alone; a mark past every bin where there is no hint or the test fails
+-- the hint or the bin beside it, tested by the edges alone; a mark past every bin where there is no hint or the test fails
 unfoldable pub sureBin : List Float → List ℕ → Table → Float → ℕ
 sureBin list hints table x =
-    cond (ltb (placeOf table x) (length hints)) (let g = nearHint list x (getD hints (placeOf table x) 0) in cond (between list x g) g (2 ^ 64 - 1)) (2 ^ 64 - 1)
+    let p = placeOf table x in
+    let g = nearHint list x (getD hints p 0) in
+    cond (isNan (spot table x) || not (ltb p (length hints)) || not (between list x g)) (2 ^ 64 - 1) g
 
 unfoldable pub hintedBin : List Float → List ℕ → Table → Float → Option ℕ
 hintedBin list hints table x = guessedBin list table x (nearHint list x (hintFor list hints table x))

@@ -301,7 +301,11 @@ fn sure_bin(list: &[f64], hints: &[u8], table: Table, x: f64) -> usize
     ensures { λ r. ⌜ r ≡ sureBin (now (list .entry)) (now (hints .entry)) table x ⌝ }
 {
     let n = reducer::n_bins(BuiltEdges::Irregular, list.len());
-    let q = place_of(table, x);
+    let z = x * table.scale + table.offset;
+    if floats::is_nan(z) {
+        return usize::MAX;
+    }
+    let q = (f64::to_bits(z) % 4096) as usize;
     if q >= hints.len() {
         return usize::MAX;
     }

@@ -1,5 +1,7 @@
+use mathlib.Core.Path.{sym, refl}
 use native.Mathlib.Omega.{arith}
-use Rattle.edge_table.proofs.Batch.{sure-none, sure-quick, sure-right, sure-wrong}
+use Rattle.edge_table.specs.Table.{placeOf}
+use Rattle.edge_table.proofs.Batch.{sure-nan, sure-none, sure-quick, sure-right, sure-wrong}
 use borrow.Author.Needs.{needs}
 use Rattle.edge_table.proofs.sure_bin.Statement.{statement}
 use Rattle.edge_table.proofs.sure_bin.Tie as tie
@@ -7,85 +9,101 @@ use Rattle.edge_table.proofs.sure_bin.Reads as reads
 use Rattle.edge_table.proofs.sure_bin.Lts as lts
 use Rattle.edge_table.proofs.is_between.Reads as is-between-reads
 use Rattle.edge_table.proofs.near_hint.Reads as near-hint-reads
-use Rattle.edge_table.proofs.place_of.Reads as place-of-reads
+use Rattle.floats.proofs.is_nan.Reads as is-nan-reads
 use Rattle.reducer.proofs.n_bins.Reads as n-bins-reads
 
--- src/lib.rt:300:9
+-- src/lib.rt:303:9
 n-bins-requires : tie.Need-n-bins-requires
 n-bins-requires c κs = search needs
 
--- src/lib.rt:301:9
-place-of-requires : tie.Need-place-of-requires
-place-of-requires c κs = search needs
+-- src/lib.rt:305:8
+is-nan-requires : tie.Need-is-nan-requires
+is-nan-requires c κs = search needs
 
--- src/lib.rt:303:9
+-- src/lib.rt:306:9
 returns : tie.Need-returns
-returns c = sure-none _ _ _ _ _ (c .before .place-of .ensures .0) (c .if1 .taken)
+returns c = sure-nan _ _ _ _ _ (c .before .is-nan .ensures) (c .if1 .taken)
 
--- src/lib.rt:305:13
+-- src/lib.rt:308:14
+float-to-bits-q : tie.Need-float-to-bits-q
+float-to-bits-q c = rw (sym (c .before .is-nan .ensures), c .if1 .left) tt
+
+-- src/lib.rt:310:9
+returns-2 : tie.Need-returns-2
+unfolding placeOf
+returns-2 c = sure-none _ _ _ _ _ (c .before .before .is-nan .ensures) (c .before .if1 .left) _ refl (c .if2 .taken)
+
+-- src/lib.rt:312:13
 shared-slice-read-h : tie.Need-shared-slice-read-h
 shared-slice-read-h c = search needs
 
--- src/lib.rt:305:13
+-- src/lib.rt:312:13
 cast-h : tie.Need-cast-h
-cast-h c = omega (arith, c .shared-slice-known3 .given (c .before .before .place-of .result))
+unfolding placeOf
+cast-h c = let s = c .before .before .before .before .before .before .before .before .before .args in omega (arith, c .shared-slice-known3 .given (placeOf (s .table) (s .x)))
 
--- src/lib.rt:307:12
-mul-if3 : tie.Need-mul-if3
-mul-if3 c = search needs
-
--- src/lib.rt:307:12
-shared-slice-read-if3 : tie.Need-shared-slice-read-if3
-shared-slice-read-if3 c = search needs
-
--- src/lib.rt:308:25
-add-if4 : tie.Need-add-if4
-add-if4 c = search needs
-
--- src/lib.rt:308:20
+-- src/lib.rt:314:12
 mul-if4 : tie.Need-mul-if4
 mul-if4 c = search needs
 
--- src/lib.rt:308:20
+-- src/lib.rt:314:12
 shared-slice-read-if4 : tie.Need-shared-slice-read-if4
 shared-slice-read-if4 c = search needs
 
--- src/lib.rt:309:17
-returns-2 : tie.Need-returns-2
-returns-2 c = sure-quick _ _ _ _ _ (c .before .before .before .before .before .before .before .place-of .ensures .0) (c .before .before .before .before .before .before .if1 .left) _ (c .before .before .before .before .before .before .before .before .n-bins .ensures) (c .before .before .before .before .if2 .taken) (c .before .before .if3 .taken) (c .if4 .taken)
+-- src/lib.rt:315:25
+add-if5 : tie.Need-add-if5
+add-if5 c = search needs
 
--- src/lib.rt:313:9
+-- src/lib.rt:315:20
+mul-if5 : tie.Need-mul-if5
+mul-if5 c = search needs
+
+-- src/lib.rt:315:20
+shared-slice-read-if5 : tie.Need-shared-slice-read-if5
+shared-slice-read-if5 c = search needs
+
+-- src/lib.rt:316:17
+returns-3 : tie.Need-returns-3
+unfolding placeOf
+returns-3 c = sure-quick _ _ _ _ _ (c .before .before .before .before .before .before .before .before .is-nan .ensures) (c .before .before .before .before .before .before .before .if1 .left) _ refl (c .before .before .before .before .before .before .if2 .left) _ (c .before .before .before .before .before .before .before .before .before .before .before .n-bins .ensures) (c .before .before .before .before .if3 .taken) (c .before .before .if4 .taken) (c .if5 .taken)
+
+-- src/lib.rt:320:9
 near-hint-requires : tie.Need-near-hint-requires
-near-hint-requires c κs = omega (arith, c .before .shared-slice-known3 .given (c .before .before .before .place-of .result))
+unfolding placeOf
+near-hint-requires c κs = let s = c .before .before .before .before .before .before .before .before .before .before .args in omega (arith, c .before .shared-slice-known3 .given (placeOf (s .table) (s .x)))
 
--- src/lib.rt:314:8
+-- src/lib.rt:321:8
 is-between-requires : tie.Need-is-between-requires
 is-between-requires c κs = search needs
 
--- src/lib.rt:297:1
-returns-3 : tie.Need-returns-3
-returns-3 c = sure-right _ _ _ _ _ (c .before .before .before .before .before .before .place-of .ensures .0) (c .before .before .before .before .before .if1 .left) _ (c .before .before .near-hint .ensures .0) _ (c .before .is-between .ensures) (c .if5 .taken)
-
--- src/lib.rt:297:1
+-- src/lib.rt:300:1
 returns-4 : tie.Need-returns-4
-returns-4 c = sure-wrong _ _ _ _ _ (c .before .before .before .before .before .before .place-of .ensures .0) (c .before .before .before .before .before .if1 .left) _ (c .before .before .near-hint .ensures .0) _ (c .before .is-between .ensures) (c .if5 .left)
+unfolding placeOf
+returns-4 c = sure-right _ _ _ _ _ (c .before .before .before .before .before .before .before .is-nan .ensures) (c .before .before .before .before .before .before .if1 .left) _ refl (c .before .before .before .before .before .if2 .left) _ (c .before .before .near-hint .ensures .0) _ (c .before .is-between .ensures) (c .if6 .taken)
+
+-- src/lib.rt:300:1
+returns-5 : tie.Need-returns-5
+unfolding placeOf
+returns-5 c = sure-wrong _ _ _ _ _ (c .before .before .before .before .before .before .before .is-nan .ensures) (c .before .before .before .before .before .before .if1 .left) _ refl (c .before .before .before .before .before .if2 .left) _ (c .before .before .near-hint .ensures .0) _ (c .before .is-between .ensures) (c .if6 .left)
 
 pub sure-bin-spec : {M : Type 1} → statement M
 sure-bin-spec =
     tie.close
     (tie.spec
     n-bins-requires
-    place-of-requires
+    is-nan-requires
     returns
+    float-to-bits-q
+    returns-2
     shared-slice-read-h
     cast-h
-    mul-if3
-    shared-slice-read-if3
-    add-if4
     mul-if4
     shared-slice-read-if4
-    returns-2
+    add-if5
+    mul-if5
+    shared-slice-read-if5
+    returns-3
     near-hint-requires
     is-between-requires
-    returns-3
-    returns-4)
+    returns-4
+    returns-5)
