@@ -333,9 +333,9 @@ fn sure_bins(list: &[f64], hints: &[u8], table: Table, x: &[f64], found: &mut [u
     let mut all = 0;
     let mut q = 0;
     while q < x.len() {
-        let number = sure_bin(list, hints, table, x[q]);
-        found[q] = number;
-        all = all | number;
+        let bin = sure_bin(list, hints, table, x[q]);
+        found[q] = bin;
+        all = all | bin;
         q += 1;
     }
     all
