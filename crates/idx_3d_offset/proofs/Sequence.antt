@@ -68,7 +68,7 @@ module _ (a b : Axes) (ha : Walkable a) (hb : Walkable b) where
   cross-counts z c = subst (Counts z) cross-length c
 
 module _ (a : Axes) (h : Walkable a) where
-  middle-centre : middleOf a ≡ centre (a .z) (a .y) (a .x) (h .y-axis .least) (h .x-axis .least)
+  pub middle-centre : middleOf a ≡ centre (a .z) (a .y) (a .x) (h .y-axis .least) (h .x-axis .least)
   unfolding middleOf crossLen
   middle-centre = omega (arith, centre-twice (a .z) (a .y) (a .x) (h .y-axis .least) (h .x-axis .least) (h .z-axis .least))
 

@@ -5,7 +5,8 @@ use mathlib.Core.List.{List, [], _∷_}
 use mathlib.Core.Bool.{Bool, not, cond, _&&_}
 use Prim.Native.Nat.{ℕ, _+_, _-_, _*_, _/_, _%_, _≤_, _<_}
 use lib.Dec.{leb, eqb}
-use lib.IntN.{ℤ, pos, natAbs, subℕ}
+use lib.IntN.{ℤ, pos, natAbs, subℕ, _+ℤ_}
+use lib.Signed.{ltZ}
 use Rattle.definitions.specs.Blocks as blocks
 use Rattle.definitions.specs.Blocks.{startA, startB, axesOffsets, isAfter}
 use Rattle.idx_3d_offset.specs.declared.Idx3DOffset.{Idx3DOffset}
@@ -85,3 +86,13 @@ offsetNumber a b i =
       dy = subℕ (i / axisLen (a .x) (b .x) % axisLen (a .y) (b .y)) (a .y - 1);
       dx = subℕ (i % axisLen (a .x) (b .x)) (a .x - 1);
     }
+
+-- the lowest offset of an axis of n cells: -(n - 1)
+abbrev pub lowest : ℕ → ℤ
+lowest n = subℕ 0 (n - 1)
+
+-- the offset after d: x fastest; an axis that is past its highest starts at its lowest again
+unfoldable pub offsetAfter : Axes → Axes → blocks.Idx3DOffset → blocks.Idx3DOffset
+offsetAfter a b d =
+    cond (ltZ (d .dx +ℤ pos 1) (pos (b .x))) (record { dz = d .dz; dy = d .dy; dx = d .dx +ℤ pos 1 })
+    (cond (ltZ (d .dy +ℤ pos 1) (pos (b .y))) (record { dz = d .dz; dy = d .dy +ℤ pos 1; dx = lowest (a .x) }) (record { dz = d .dz +ℤ pos 1; dy = lowest (a .y); dx = lowest (a .x) }))

@@ -26,7 +26,7 @@ mag-abs : (z : ℤ) → mag z ≤ natAbs z
 mag-abs (pos n) = omega arith
 mag-abs (negsuc n) = omega arith
 
-fits : (z : ℤ) → natAbs z ≤ 3_000_000 → SFits w64 z
+pub fits : (z : ℤ) → natAbs z ≤ 3_000_000 → SFits w64 z
 fits z h = record { sfits = omega (arith, mag-abs z) }
 
 exact : (z : ℤ) → natAbs z ≤ 3_000_000 → T (inFloat binary64 z)

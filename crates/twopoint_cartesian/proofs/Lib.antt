@@ -5,6 +5,7 @@ pub mod Means
 pub mod Cells
 pub mod Merge
 pub mod Rows
+pub mod Next
 pub mod Walk
 pub mod Placewise
 pub mod Runs

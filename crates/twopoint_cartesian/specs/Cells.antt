@@ -25,14 +25,10 @@ use Rattle.reducer.specs.Consume.{builtBins, builtBin, reducerSize, consumed}
 use Rattle.edge_table.specs.declared.Table.{Table}
 use Rattle.edge_table.specs.Tabled.{Usable, Tabled}
 use Rattle.idx_3d_offset.specs.declared.Axes.{Axes}
-use Rattle.idx_3d_offset.specs.Offsets.{Walkable, crossSeq, autoSeq, idxOf}
-use Rattle.spatial.specs.declared.Block.{Block}
+use Rattle.idx_3d_offset.specs.Offsets.{Walkable, crossSeq, autoSeq}
 use Rattle.twopoint_cartesian.specs.declared.Setup.{Setup}
 use Rattle.twopoint_cartesian.specs.declared.Tables.{Tables}
 use Rattle.twopoint_cartesian.specs.declared.Mean.{Mean}
-use Rattle.twopoint_cartesian.specs.declared.Step.{Step}
-use Rattle.twopoint_cartesian.specs.declared.Step.the-variants.{At, None}
-use Rattle.twopoint_cartesian.specs.Readings.{axesOf}
 
 -- a block's three components and its weights
 pub record Fields : Type 0 where
@@ -258,10 +254,6 @@ module _ (setup : Setup) (list valueEdges : List Float) (width : Blocks.CellWidt
   unfoldable pub offsetAdded : Blocks.Idx3DOffset → List Float → List Float
   offsetAdded d s = mergedIn (builtBin (setup .edges) list (distanceSquared width a b d)) (setup .«n_states») (offsetCells setup valueEdges a b d (fresh size)) s
 
-  unfoldable pub numberAdded : Option Blocks.Idx3DOffset → List Float → List Float
-  numberAdded none s = s
-  numberAdded (some d) s = offsetAdded d s
-
   -- all offsets of a list
   unfoldable pub offsetsAdded : List Blocks.Idx3DOffset → List Float → List Float
   offsetsAdded l s = foldPack offsetAdded l s
@@ -270,26 +262,3 @@ module _ (setup : Setup) (list valueEdges : List Float) (width : Blocks.CellWidt
 abbrev pub seqFor : Bool → Axes → Axes → List Blocks.Idx3DOffset
 seqFor true a b = autoSeq a
 seqFor false a b = crossSeq a b
-
--- ---- an offset and its bin
-abbrev pub stepOf : Step → Option (Blocks.Idx3DOffset × ℕ)
-stepOf (At o k) = some (idxOf o, k)
-stepOf None = none
-
-abbrev pub inBin : Blocks.Idx3DOffset → Option ℕ → Option (Blocks.Idx3DOffset × ℕ)
-inBin d none = none
-inBin d (some k) = some (d, k)
-
--- of an offset, if there is one; distance gives its squared distance
-unfoldable pub stepFor : BuiltEdges → List Float → (Blocks.Idx3DOffset → Float) → Option Blocks.Idx3DOffset → Option (Blocks.Idx3DOffset × ℕ)
-stepFor edges list distance none = none
-stepFor edges list distance (some d) = inBin d (builtBin edges list (distance d))
-
--- blocks whose offset number i can be reckoned
-pub record Walked (auto : Bool) (a b : Block) (i : ℕ) : Type 0 where
-  pub first : Walkable (axesOf a)
-  pub second : Walkable (axesOf b)
-  pub first-global : AllNear (a .gz) (a .gy) (a .gx)
-  pub second-global : AllNear (b .gz) (b .gy) (b .gx)
-  pub same : auto ≡ true → axesOf a ≡ axesOf b
-  pub number : i < length (seqFor auto (axesOf a) (axesOf b))

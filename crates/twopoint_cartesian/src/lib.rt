@@ -3,7 +3,6 @@ use bins::BinIndex;
 use edge_table::Table;
 use idx_3d_offset::Axes;
 use idx_3d_offset::Idx3DOffset;
-use idx_3d_offset::Offset;
 use parallel_serial::Shape;
 use reducer::BuiltEdges;
 use reducer::Datum;
@@ -32,11 +31,11 @@ ghost use Rattle.reducer.specs.Consume.{builtBin};
 ghost use Rattle.edge_table.specs.Tabled.{Usable, Tabled};
 ghost use Rattle.parallel_serial.specs.Drive.{zeroPack, addedScratch};
 ghost use Rattle.parallel_serial.proofs.Refusals.{Drivable};
-ghost use Rattle.idx_3d_offset.specs.Offsets.{idxOf, offsetOf, Reach};
+ghost use Rattle.idx_3d_offset.specs.Offsets.{idxOf, Axis, Walkable, lowest as lowestOf, offsetAfter, Reach};
 ghost use Rattle.spatial.specs.Readings.{blockOf, widthOf};
 ghost use Rattle.spatial.specs.Refusals.{setsFor};
 ghost use Rattle.twopoint_cartesian.specs.Readings.{axesOf, setsRun, autoRun, crossRun};
-ghost use Rattle.twopoint_cartesian.specs.Cells.{fields, readingIn, datumIn, rowValue, weightAdded, weightsAdded, Binned, RowRoom, Wide, Holds, RowFits, PlaneFits, BlockFits, Near, AllNear, Ready, Placed, rowAdded, scalarOf, isMean, cellsInMean, rowInMean, planeInMean, blockInMean, offsetMean, meanState, Looked, Findable, planeAdded, blockAdded, firstA, firstB, overlapOf, offsetCells, zeroState, fresh, Room, Roomy, stateMerged, mergedIn, numberAdded, offsetsAdded, seqFor, Walked, stepOf, stepFor};
+ghost use Rattle.twopoint_cartesian.specs.Cells.{fields, readingIn, datumIn, rowValue, weightAdded, weightsAdded, Binned, RowRoom, Wide, Holds, RowFits, PlaneFits, BlockFits, Near, AllNear, Ready, Placed, rowAdded, scalarOf, isMean, cellsInMean, rowInMean, planeInMean, blockInMean, offsetMean, meanState, Looked, Findable, planeAdded, blockAdded, firstA, firstB, overlapOf, offsetCells, zeroState, fresh, Room, Roomy, stateMerged, mergedIn, offsetAdded, offsetsAdded, seqFor};
 
 // What is the same for each offset of a run.
 struct Setup {
@@ -51,12 +50,6 @@ struct Tables {
     distances: Table,
     edges: BuiltEdges,
     values: Table,
-}
-
-// An offset and its distance's bin; None past the last offset or where there is no bin.
-enum Step {
-    At(Idx3DOffset, usize),
-    None,
 }
 
 // The two numbers of a mean's state.
@@ -665,41 +658,44 @@ fn seq_len(auto: bool, a: Block, b: Block) -> usize
     idx_3d_offset::cross_len(axes_of(a), axes_of(b))
 }
 
-fn seq_get(auto: bool, a: Block, b: Block, i: usize) -> Offset
-    ensures { λ r. ⌜ offsetOf r ≡ getElem? (seqFor auto (axesOf a) (axesOf b)) i ⌝ }
+// The lowest offset of an axis of n cells.
+fn lowest(n: usize) -> i64
+    requires { ⌜ Axis n ⌝ }
+    ensures { λ r. ⌜ r ≡ lowestOf n ⌝ }
 {
-    if auto {
-        return idx_3d_offset::auto_offset(axes_of(a), i);
-    }
-    idx_3d_offset::cross_offset(axes_of(a), axes_of(b), i)
+    1 - n as i64
 }
 
-// Offset number i and its bin.
-fn step_at(
-    auto: bool,
-    setup: Setup,
-    distances: Table,
-    list: &[f64],
-    width: CellWidth,
-    a: Block,
-    b: Block,
-    i: usize,
-) -> Step
-    requires { ⌜ Walked auto a b i ⌝ ∗ ⌜ Tabled (setup .edges) (now list) distances ⌝ }
-    ensures { λ r. ⌜ stepOf r ≡ stepFor (setup .edges) (now (list .entry)) (distanceSquared (widthOf width) (blockOf a [] [] [] []) (blockOf b [] [] [] [])) (getElem? (seqFor auto (axesOf a) (axesOf b)) i) ⌝ }
+// The offset after o, by additions: its number in the sequence would take two divisions.
+fn next_offset(a: Block, b: Block, o: Idx3DOffset) -> Idx3DOffset
+    requires { ⌜ Walkable (axesOf a) ⌝ ∗ ⌜ Walkable (axesOf b) ⌝ ∗ ⌜ Reach (axesOf a) (axesOf b) (idxOf o) ⌝ }
+    ensures { λ r. ⌜ idxOf r ≡ offsetAfter (axesOf a) (axesOf b) (idxOf o) ⌝ }
 {
-    match seq_get(auto, a, b, i) {
-        Offset::At(o) => match bin_of_offset(setup, distances, list, width, a, b, o) {
-            BinIndex::At(bin) => Step::At(o, bin),
-            BinIndex::None => Step::None,
-        },
-        Offset::End => Step::None,
+    let x = o.2 + 1;
+    if x < b.nx as i64 {
+        return Idx3DOffset(o.0, o.1, x);
     }
+    let y = o.1 + 1;
+    if y < b.ny as i64 {
+        return Idx3DOffset(o.0, y, lowest(a.nx));
+    }
+    Idx3DOffset(o.0 + 1, lowest(a.ny), lowest(a.nx))
+}
+
+// Offset number 0, if there is one: in auto the one after (0, 0, 0), in cross the lowest.
+fn first_offset(auto: bool, a: Block, b: Block) -> Idx3DOffset
+    requires { ⌜ Walkable (axesOf a) ⌝ }
+    ensures { λ r. ⌜ (0 < length (seqFor auto (axesOf a) (axesOf b)) → getElem? (seqFor auto (axesOf a) (axesOf b)) 0 ≡ some (idxOf r)) ⌝ }
+{
+    if auto {
+        return next_offset(a, a, Idx3DOffset(0, 0, 0));
+    }
+    Idx3DOffset(lowest(a.nz), lowest(a.ny), lowest(a.nx))
 }
 
 // ---- means, which read no value edges
 
-// The mean of offset number i, into its bin, if its distance has one.
+// The mean of an offset, into its bin, if its distance has one.
 fn add_mean(
     auto: bool,
     setup: Setup,
@@ -716,20 +712,20 @@ fn add_mean(
     b2: &[f64],
     bw: &[f64],
     b: Block,
-    i: usize,
+    o: Idx3DOffset,
     scratch: &mut [f64],
 )
-    requires { ⌜ Ready (blockOf a (now a0) (now a1) (now a2) (now aw)) ⌝ ∗ ⌜ Ready (blockOf b (now b0) (now b1) (now b2) (now bw)) ⌝ ∗ ⌜ (auto ≡ true → blockOf a (now a0) (now a1) (now a2) (now aw) ≡ blockOf b (now b0) (now b1) (now b2) (now bw)) ⌝ ∗ ⌜ i < length (seqFor auto (axesOf a) (axesOf b)) ⌝ }
+    requires { ⌜ Ready (blockOf a (now a0) (now a1) (now a2) (now aw)) ⌝ ∗ ⌜ Ready (blockOf b (now b0) (now b1) (now b2) (now bw)) ⌝ ∗ ⌜ (auto ≡ true → blockOf a (now a0) (now a1) (now a2) (now aw) ≡ blockOf b (now b0) (now b1) (now b2) (now bw)) ⌝ ∗ ⌜ Reach (axesOf a) (axesOf b) (idxOf o) ⌝ }
     requires { ⌜ isMean (setup .reducer) ≡ true ⌝ ∗ ⌜ Tabled (setup .edges) (now list) distances ⌝ ∗ ⌜ Roomy setup (now list) [] 2 (length (now scratch)) ⌝ }
-    ensures { λ _. ⌜ now (scratch .exit) ≡ numberAdded setup (now (list .entry)) [] (widthOf width) (blockOf a (now (a0 .entry)) (now (a1 .entry)) (now (a2 .entry)) (now (aw .entry)))
-        (blockOf b (now (b0 .entry)) (now (b1 .entry)) (now (b2 .entry)) (now (bw .entry))) 2 (getElem? (seqFor auto (axesOf a) (axesOf b)) i) (now (scratch .entry)) ⌝ }
+    ensures { λ _. ⌜ now (scratch .exit) ≡ offsetAdded setup (now (list .entry)) [] (widthOf width) (blockOf a (now (a0 .entry)) (now (a1 .entry)) (now (a2 .entry)) (now (aw .entry)))
+        (blockOf b (now (b0 .entry)) (now (b1 .entry)) (now (b2 .entry)) (now (bw .entry))) 2 (idxOf o) (now (scratch .entry)) ⌝ }
 {
-    match step_at(auto, setup, distances, list, width, a, b, i) {
-        Step::At(o, bin) => {
+    match bin_of_offset(setup, distances, list, width, a, b, o) {
+        BinIndex::At(bin) => {
             let m = mean_of_offset(auto, setup, a0, a1, a2, aw, a, b0, b1, b2, bw, b, o);
             merge_mean(setup.n_states, bin, m, scratch);
         }
-        Step::None => {}
+        BinIndex::None => {}
     }
 }
 
@@ -758,7 +754,8 @@ fn fill_means(
         (blockOf b (now (b0 .entry)) (now (b1 .entry)) (now (b2 .entry)) (now (bw .entry))) 2 (seqFor auto (axesOf a) (axesOf b)) (now (scratch .entry)) ⌝ }
 {
     let n = seq_len(auto, a, b);
-    for i in 0..n {
+    let mut o = first_offset(auto, a, b);
+    for _ in 0..n {
         add_mean(
             auto,
             setup,
@@ -775,9 +772,10 @@ fn fill_means(
             b2,
             bw,
             b,
-            i,
+            o,
             scratch,
         );
+        o = next_offset(a, b, o);
     }
 }
 
@@ -894,9 +892,8 @@ fn add_histogram(
     merge_state(setup.n_states, bin, state, scratch);
 }
 
-// The cells of offset number i, into its bin, if its distance has one.
-fn add_number(
-    auto: bool,
+// The cells of an offset, into its bin, if its distance has one.
+fn add_offset(
     setup: Setup,
     tables: Tables,
     list: &[f64],
@@ -913,24 +910,24 @@ fn add_number(
     b2: &[f64],
     bw: &[f64],
     b: Block,
-    i: usize,
+    o: Idx3DOffset,
     values: &mut [f64],
     found: &mut [usize],
     state: &mut [f64],
     scratch: &mut [f64],
 )
-    requires { ⌜ Ready (blockOf a (now a0) (now a1) (now a2) (now aw)) ⌝ ∗ ⌜ Ready (blockOf b (now b0) (now b1) (now b2) (now bw)) ⌝ ∗ ⌜ (auto ≡ true → blockOf a (now a0) (now a1) (now a2) (now aw) ≡ blockOf b (now b0) (now b1) (now b2) (now bw)) ⌝ ∗ ⌜ i < length (seqFor auto (axesOf a) (axesOf b)) ⌝ }
+    requires { ⌜ Ready (blockOf a (now a0) (now a1) (now a2) (now aw)) ⌝ ∗ ⌜ Ready (blockOf b (now b0) (now b1) (now b2) (now bw)) ⌝ ∗ ⌜ Reach (axesOf a) (axesOf b) (idxOf o) ⌝ }
     requires { ⌜ Looked setup (now list) (now «value_edges») tables ⌝ }
     requires { ⌜ Roomy setup (now list) (now «value_edges») (length (now state)) (length (now scratch)) ⌝ }
     requires { ⌜ Wide (length (now values)) (length (now found)) ⌝ }
-    ensures { λ _. ⌜ now (scratch .exit) ≡ numberAdded setup (now (list .entry)) (now («value_edges» .entry)) (widthOf width) (blockOf a (now (a0 .entry)) (now (a1 .entry)) (now (a2 .entry)) (now (aw .entry)))
-        (blockOf b (now (b0 .entry)) (now (b1 .entry)) (now (b2 .entry)) (now (bw .entry))) (length (now (state .entry))) (getElem? (seqFor auto (axesOf a) (axesOf b)) i) (now (scratch .entry)) ⌝ }
+    ensures { λ _. ⌜ now (scratch .exit) ≡ offsetAdded setup (now (list .entry)) (now («value_edges» .entry)) (widthOf width) (blockOf a (now (a0 .entry)) (now (a1 .entry)) (now (a2 .entry)) (now (aw .entry)))
+        (blockOf b (now (b0 .entry)) (now (b1 .entry)) (now (b2 .entry)) (now (bw .entry))) (length (now (state .entry))) (idxOf o) (now (scratch .entry)) ⌝ }
 {
     let distances = tables.distances;
     let edges = tables.edges;
     let table = tables.values;
-    match step_at(auto, setup, distances, list, width, a, b, i) {
-        Step::At(o, bin) => add_histogram(
+    match bin_of_offset(setup, distances, list, width, a, b, o) {
+        BinIndex::At(bin) => add_histogram(
             setup,
             edges,
             table,
@@ -953,7 +950,7 @@ fn add_number(
             state,
             scratch,
         ),
-        Step::None => {}
+        BinIndex::None => {}
     }
 }
 
@@ -989,9 +986,9 @@ fn fill(
         (blockOf b (now (b0 .entry)) (now (b1 .entry)) (now (b2 .entry)) (now (bw .entry))) (length (now (state .entry))) (seqFor auto (axesOf a) (axesOf b)) (now (scratch .entry)) ⌝ }
 {
     let n = seq_len(auto, a, b);
-    for i in 0..n {
-        add_number(
-            auto,
+    let mut o = first_offset(auto, a, b);
+    for _ in 0..n {
+        add_offset(
             setup,
             tables,
             list,
@@ -1008,12 +1005,13 @@ fn fill(
             b2,
             bw,
             b,
-            i,
+            o,
             values,
             found,
             state,
             scratch,
         );
+        o = next_offset(a, b, o);
     }
 }
 
