@@ -9,8 +9,8 @@ use native.Mathlib.Nat.{eq-or-lt-of-le, lt-irrefl, add-zero, zero-add, le-refl, 
 use native.Mathlib.Numerals.{add-one}
 use native.Mathlib.Omega.{arith}
 use lib.Dec.{T, ltb, leb}
-use lib.ListN.{length, getD, set, take, length-map}
-use lib.Seq.{getD-set-same, getD-set-other, take-suc, take-set-le, take-suc-set, take-length, length-take-le, ext-getD}
+use lib.ListN.{length, getD, set, take, drop, length-map, length-drop}
+use lib.Seq.{getD-set-same, getD-set-other, take-suc, take-set-le, take-suc-set, take-length, length-take-le, ext-getD, getD-drop}
 use lib.Ieee.{Float, nan, binary64, lt, le, mul, fits}
 use lib.Ieee.Bits.{is-true}
 use lib.Ieee.Fits.{nan-fits, add-fits}
@@ -18,7 +18,7 @@ use borrow.Author.Tests.{ltb-true, lt-leb}
 use Rattle.definitions.specs.Lists.{at}
 use Rattle.definitions.specs.Bins.{below}
 use Rattle.definitions.specs.Points as points
-use Rattle.definitions.specs.Points.{squaredDiffNorm}
+use Rattle.definitions.specs.Points.{Reading, squaredDiffNorm}
 use Rattle.definitions.specs.Reducer.{Datum, kept, dropped, componentSum, pairIn, datumOf}
 use Rattle.laws.proofs.Loops.{runOn, run-append}
 use Rattle.bins.specs.declared.BinIndex.{BinIndex}
@@ -40,8 +40,8 @@ use Rattle.edge_table.proofs.Lookup.{bin-low, bin-high, found-bin}
 use Rattle.unstructured.specs.declared.Setup.{Setup}
 use Rattle.unstructured.specs.declared.Pair.{Pair}
 use Rattle.unstructured.specs.declared.Pair.the-variants.{Kept, Dropped}
-use Rattle.unstructured.specs.Pairs.{thePair, pointIn, builtPair, pairAdded, pairStep, rowAdded}
-use Rattle.unstructured.specs.Batches.{Listed, bit, inside, also, keptBelow, picked, numberedPair, pairPlaced, pairValues, placedTo, weightDatum, weightsTo, valueNumbers, placesAdded}
+use Rattle.unstructured.specs.Pairs.{thePair, pointIn, Readable, builtPair, pairAdded, pairStep, rowAdded}
+use Rattle.unstructured.specs.Batches.{Listed, Parts, readingIn, bit, inside, also, keptBelow, picked, numberedPair, pairPlaced, pairValues, placedTo, weightDatum, weightsTo, valueNumbers, placesAdded}
 
 -- ---- bits
 pub bit-le : (t : Bool) → bit t ≤ 1
@@ -166,18 +166,18 @@ module _ (valueEdges : List Float) (n b : ℕ) (d : Datum) (s : List Float) (v :
       ∙ histogram-number e m n b d s o
       ∙ (λ i. cond (hasRoom n (builtBins e m) b (length s)) (addIn ((index-bin e valueEdges (componentSum d) ∙ sym (kept-bin valueEdges e (componentSum d))) i) n b (d .weight) s) s)
 
-module _ (setup : Setup) (valueEdges : List Float) (a b : points.Point) (v : ℕ) (s : List Float) where
+module _ (setup : Setup) (valueEdges : List Float) (x y : Reading) (v : ℕ) (s : List Float) where
   abbrev datum : Datum
-  datum = datumOf (opOf (setup .op)) (a .rd) (b .rd)
+  datum = datumOf (opOf (setup .op)) x y
 
   -- a pair by the number of its bin
   numbered : (k : ℕ) (o : Option ℕ) → below (setup .«n_states») (some k) ≡ o
       → ((e : BuiltEdges) → setup .reducer ≡ ComponentSumHistogram e → v ≡ numberIn false e valueEdges (componentSum datum))
-      → pairPlaced setup (length valueEdges) v (numberedPair setup a b k) s ≡ pairAdded setup valueEdges (pairIn o datum) s
+      → pairPlaced setup (length valueEdges) v (numberedPair setup x y k) s ≡ pairAdded setup valueEdges (pairIn o datum) s
   unfolding numberedPair
-  numbered k o e h = ap (λ (x : Option ℕ). pairPlaced setup (length valueEdges) v (pairIn x datum) s) e ∙ go o
+  numbered k o e h = ap (λ (p : Option ℕ). pairPlaced setup (length valueEdges) v (pairIn p datum) s) e ∙ go o
     where
-      go : (x : Option ℕ) → pairPlaced setup (length valueEdges) v (pairIn x datum) s ≡ pairAdded setup valueEdges (pairIn x datum) s
+      go : (p : Option ℕ) → pairPlaced setup (length valueEdges) v (pairIn p datum) s ≡ pairAdded setup valueEdges (pairIn p datum) s
       go none = refl
       go (some i) = value-number valueEdges (setup .«n_states») i datum s v (setup .reducer) h
 
@@ -198,35 +198,35 @@ unfolding valueNumbers
 value-at r e edges f l found q h k =
     ap (λ (y : Reducer). getD (valueNumbers y edges (map f l) found) q 0) k ∙ at-maps f (numberIn false e edges) l q 0 nan 0 h
 
-module _ (setup : Setup) (m : ℕ) (a : points.Point) (g : ℕ → points.Point) (j : ℕ) (places found valueFound : List ℕ) where
-  pub placed-none : (s : List Float) → s ≡ placedTo a g j setup m places found valueFound 0 s
+module _ (setup : Setup) (m : ℕ) (x : Reading) (r : ℕ → Reading) (places found valueFound : List ℕ) where
+  pub placed-none : (s : List Float) → s ≡ placedTo x r setup m places found valueFound 0 s
   unfolding placedTo
   placed-none s = refl
 
-  pub placed-next : (q : ℕ) (b : points.Point) (pair : Pair) (z s r : List Float) → s ≡ placedTo a g j setup m places found valueFound q z → b ≡ g (j + getD places q 0)
-      → thePair pair ≡ numberedPair setup a b (getD found q 0) → r ≡ pairPlaced setup m (getD valueFound q 0) (thePair pair) s → r ≡ placedTo a g j setup m places found valueFound (q + 1) z
+  pub placed-next : (q : ℕ) (y : Reading) (pair : Pair) (z s u : List Float) → s ≡ placedTo x r setup m places found valueFound q z → y ≡ r (getD places q 0)
+      → thePair pair ≡ numberedPair setup x y (getD found q 0) → u ≡ pairPlaced setup m (getD valueFound q 0) (thePair pair) s → u ≡ placedTo x r setup m places found valueFound (q + 1) z
   unfolding placedTo
-  placed-next q b pair z s r h e p k =
-      k ∙ (λ i. pairPlaced setup m (getD valueFound q 0) ((p ∙ ap (λ (y : points.Point). numberedPair setup a y (getD found q 0)) e) i) (h i))
-      ∙ ap (λ (n : ℕ). placedTo a g j setup m places found valueFound n z) (sym (add-one q))
+  placed-next q y pair z s u h e p k =
+      k ∙ (λ i. pairPlaced setup m (getD valueFound q 0) ((p ∙ ap (λ (v : Reading). numberedPair setup x v (getD found q 0)) e) i) (h i))
+      ∙ ap (λ (n : ℕ). placedTo x r setup m places found valueFound n z) (sym (add-one q))
 
   -- the same with the operation and the kind written out
-  pub placed-by : (o : PairOperation) (k : Reducer) (s r : List Float) → setup .op ≡ o → setup .reducer ≡ k
-      → r ≡ placedTo a g j (record { op = o; edges = setup .edges; reducer = k; «n_states» = setup .«n_states» }) m places found valueFound (length places) s
-      → r ≡ placedTo a g j setup m places found valueFound (length places) s
-  placed-by o k s r e f h =
-      h ∙ sym (λ i. placedTo a g j (record { op = e i; edges = setup .edges; reducer = f i; «n_states» = setup .«n_states» }) m places found valueFound (length places) s)
+  pub placed-by : (o : PairOperation) (k : Reducer) (s u : List Float) → setup .op ≡ o → setup .reducer ≡ k
+      → u ≡ placedTo x r (record { op = o; edges = setup .edges; reducer = k; «n_states» = setup .«n_states» }) m places found valueFound (length places) s
+      → u ≡ placedTo x r setup m places found valueFound (length places) s
+  placed-by o k s u e f h =
+      h ∙ sym (λ i. placedTo x r (record { op = e i; edges = setup .edges; reducer = f i; «n_states» = setup .«n_states» }) m places found valueFound (length places) s)
 
   module _ (f : ℕ → List Float → List Float) (h : (q : ℕ) → q < length places → (t : List Float)
-      → pairPlaced setup m (getD valueFound q 0) (numberedPair setup a (g (j + getD places q 0)) (getD found q 0)) t ≡ f (getD places q 0) t) where
-    placed-taken : (q : ℕ) (s : List Float) → q ≤ length places → placedTo a g j setup m places found valueFound q s ≡ runOn f (take q places) s
+      → pairPlaced setup m (getD valueFound q 0) (numberedPair setup x (r (getD places q 0)) (getD found q 0)) t ≡ f (getD places q 0) t) where
+    placed-taken : (q : ℕ) (s : List Float) → q ≤ length places → placedTo x r setup m places found valueFound q s ≡ runOn f (take q places) s
     unfolding placedTo
     placed-taken zero s k = refl
     placed-taken (suc q) s k =
         h q k _ ∙ ap (f (getD places q 0)) (placed-taken q s (omega arith)) ∙ sym (run-append f (take q places) (getD places q 0 ∷ []) s)
         ∙ ap (λ (l : List ℕ). runOn f l s) (sym (take-suc places q 0 k))
 
-    placed-all : (s : List Float) → placedTo a g j setup m places found valueFound (length places) s ≡ runOn f places s
+    placed-all : (s : List Float) → placedTo x r setup m places found valueFound (length places) s ≡ runOn f places s
     placed-all s = placed-taken (length places) s (le-refl (length places)) ∙ ap (λ (l : List ℕ). runOn f l s) (take-length places)
 
 -- ---- rows
@@ -294,8 +294,11 @@ module _ (setup : Setup) (list valueEdges : List Float) (a : points.Point) (g : 
     abbrev listed : List ℕ
     listed = keptBelow (table .first) (table .last) d m
 
+    abbrev reading : ℕ → Reading
+    reading e = g (j + e) .rd
+
     abbrev value : ℕ → Float
-    value e = componentSum (datumOf (opOf (setup .op)) (a .rd) (g (j + e) .rd))
+    value e = componentSum (datumOf (opOf (setup .op)) (a .rd) (reading e))
 
     abbrev number : Float → ℕ
     number x = numberIn true (setup .edges) list x
@@ -309,36 +312,69 @@ module _ (setup : Setup) (list valueEdges : List Float) (a : points.Point) (g : 
 
     pair-placed : (q : ℕ) → q < length listed → (t : List Float)
         → pairPlaced setup (length valueEdges) (getD (valueNumbers (setup .reducer) valueEdges (map value listed) valueFound) q 0)
-        (numberedPair setup a (g (j + getD listed q 0)) (getD (map number (map (λ e. getD d e nan) listed)) q 0)) t
+        (numberedPair setup (a .rd) (g (j + getD listed q 0) .rd) (getD (map number (map (λ e. getD d e nan) listed)) q 0)) t
         ≡ placeStep j (getD listed q 0) t
     unfolding pairStep builtPair
     pair-placed q h t =
         let e = getD listed q 0 in
         let v = getD (valueNumbers (setup .reducer) valueEdges (map value listed) valueFound) q 0 in
-        ap (λ (x : ℕ). pairPlaced setup (length valueEdges) v (numberedPair setup a (g (j + e)) x) t) (at-maps (λ e. getD d e nan) number listed q 0 nan 0 h)
-        ∙ numbered setup valueEdges a (g (j + e)) v t (number (getD d e nan)) (builtBin (setup .edges) list (squaredDiffNorm a (g (j + e)))) (listed-bin q h)
+        ap (λ (x : ℕ). pairPlaced setup (length valueEdges) v (numberedPair setup (a .rd) (g (j + e) .rd) x) t) (at-maps (λ e. getD d e nan) number listed q 0 nan 0 h)
+        ∙ numbered setup valueEdges (a .rd) (g (j + e) .rd) v t (number (getD d e nan)) (builtBin (setup .edges) list (squaredDiffNorm a (g (j + e)))) (listed-bin q h)
         (λ r k. value-at (setup .reducer) r valueEdges value listed valueFound q h k)
 
-    listed-row : (s : List Float) → placesAdded setup list valueEdges a g j listed (picked d listed) valueFound s ≡ rowAdded setup list valueEdges a g j m s
+    listed-row : (s : List Float) → placesAdded setup list valueEdges (a .rd) reading listed (picked d listed) valueFound s ≡ rowAdded setup list valueEdges a g j m s
     unfolding placesAdded picked pairValues
     listed-row s =
-        placed-all setup (length valueEdges) a g j listed (map number (map (λ e. getD d e nan) listed)) (valueNumbers (setup .reducer) valueEdges (map value listed) valueFound) (placeStep j) pair-placed s
+        placed-all setup (length valueEdges) (a .rd) reading listed (map number (map (λ e. getD d e nan) listed)) (valueNumbers (setup .reducer) valueEdges (map value listed) valueFound) (placeStep j) pair-placed s
         ∙ kept-row (table .first) (table .last) (tabled .ends) d j m s distant
 
-    pub batch-row : (places : List ℕ) (x s q : List Float) → places ≡ listed → x ≡ picked d listed → q ≡ placesAdded setup list valueEdges a g j places x valueFound s
-        → q ≡ rowAdded setup list valueEdges a g j m s
-    batch-row places x s q e k r = r ∙ (λ i. placesAdded setup list valueEdges a g j (e i) (k i) valueFound s) ∙ listed-row s
+    -- r reads the batch
+    pub batch-row : (r : ℕ → Reading) (places : List ℕ) (x s q : List Float) → r ≡ reading → places ≡ listed → x ≡ picked d listed
+        → q ≡ placesAdded setup list valueEdges (a .rd) r places x valueFound s → q ≡ rowAdded setup list valueEdges a g j m s
+    batch-row r places x s q b e k h = h ∙ (λ i. placesAdded setup list valueEdges (a .rd) (b i) (e i) (k i) valueFound s) ∙ listed-row s
+
+-- ---- parts of the slices: place e of `&l[k..]` is place k + e of l, for every e
+abbrev part : ℕ → List Float → List Float
+part k l = take (length l - k) (drop k l)
+
+part-is : (k : ℕ) (l : List Float) → part k l ≡ drop k l
+part-is k l = ap (λ (n : ℕ). take n (drop k l)) (sym (length-drop k l)) ∙ take-length (drop k l)
+
+part-length : (k : ℕ) (l : List Float) → length (part k l) ≡ length l - k
+part-length k l = ap length (part-is k l) ∙ length-drop k l
+
+part-at : (k : ℕ) (l : List Float) (e : ℕ) → at (part k l) e ≡ at l (k + e)
+part-at k l e = ap (λ (x : List Float). at x e) (part-is k l) ∙ getD-drop k l e nan
+
+-- m points from j on
+module _ (p v w : List Float) (stride j : ℕ) where
+  pub parts-held : (m : ℕ) → Readable p v w (j + m) stride → Parts m (part j v) (part (stride + j) v) (part (2 * stride + j) v) (part j w)
+  parts-held m h =
+      record {
+        few = omega (arith, h .few);
+        in0 = omega (arith, h .inside, h .values, part-length j v);
+        in1 = omega (arith, h .inside, h .values, part-length (stride + j) v);
+        in2 = omega (arith, h .inside, h .values, part-length (2 * stride + j) v);
+        in-w = omega (arith, h .weights, part-length j w);
+      }
+
+  pub parts-read : readingIn (part j v) (part (stride + j) v) (part (2 * stride + j) v) (part j w) ≡ (λ (e : ℕ). pointIn p v w stride (j + e) .rd)
+  unfolding readingIn pointIn
+  parts-read = λ i e. record { v0 = part-at j v e i; v1 = later stride e i; v2 = later (2 * stride) e i; w = part-at j w e i }
+    where
+      later : (k e : ℕ) → at (part (k + j) v) e ≡ at v (k + (j + e))
+      later k e = part-at (k + j) v e ∙ ap (at v) (omega arith)
 
 -- ---- values
-module _ (a : points.Point) (g : ℕ → points.Point) (j : ℕ) (op : PairOperation) where
-  pub values-are : (places : List ℕ) (d : List Float) → length d ≡ length places → ((q : ℕ) → q < length places → getD d q nan ≡ componentSum (datumOf (opOf op) (a .rd) (g (j + getD places q 0) .rd)))
-      → d ≡ pairValues a g j op places
+module _ (x : Reading) (r : ℕ → Reading) (op : PairOperation) where
+  pub values-are : (places : List ℕ) (d : List Float) → length d ≡ length places → ((q : ℕ) → q < length places → getD d q nan ≡ componentSum (datumOf (opOf op) x (r (getD places q 0))))
+      → d ≡ pairValues x r op places
   unfolding pairValues
   values-are places d e h =
-      ext-getD nan d (map (λ p. componentSum (datumOf (opOf op) (a .rd) (g (j + p) .rd))) places) (e ∙ sym (length-map places _))
-      (λ q l. h q (omega arith) ∙ sym (at-map (λ p. componentSum (datumOf (opOf op) (a .rd) (g (j + p) .rd))) places q 0 nan (omega arith)))
+      ext-getD nan d (map (λ p. componentSum (datumOf (opOf op) x (r p))) places) (e ∙ sym (length-map places _))
+      (λ q l. h q (omega arith) ∙ sym (at-map (λ p. componentSum (datumOf (opOf op) x (r p))) places q 0 nan (omega arith)))
 
-  pub values-fit : (places : List ℕ) (i : ℕ) → T (fits binary64 (getD (pairValues a g j op places) i nan))
+  pub values-fit : (places : List ℕ) (i : ℕ) → T (fits binary64 (getD (pairValues x r op places) i nan))
   unfolding pairValues
   values-fit [] i = nan-fits binary64
   values-fit (p ∷ l) zero = add-fits binary64 _ _
@@ -363,13 +399,13 @@ module _ (kind : Reducer) (edges : List Float) (found : List ℕ) (x : List Floa
       ∙ ap (map (numberIn false e edges)) same ∙ (rw h)
 
 -- the pairs added by what the lookups left
-pub places-added : (setup : Setup) (list valueEdges : List Float) (hints : List ℕ) (table : Table) (a : points.Point) (g : ℕ → points.Point) (j : ℕ) (places : List ℕ) (d : List Float)
+pub places-added : (setup : Setup) (list valueEdges : List Float) (hints : List ℕ) (table : Table) (x : Reading) (r : ℕ → Reading) (places : List ℕ) (d : List Float)
     (found valueFound u v : List ℕ) (s q : List Float) → Tabled (setup .edges) list table → ((i : ℕ) → T (fits binary64 (getD d i nan))) → length found ≡ length d → u ≡ foundOf true (setup .edges) list hints table d found
-    → v ≡ valueNumbers (setup .reducer) valueEdges (pairValues a g j (setup .op) places) valueFound → q ≡ placedTo a g j setup (length valueEdges) places u v (length places) s
-    → q ≡ placesAdded setup list valueEdges a g j places d valueFound s
+    → v ≡ valueNumbers (setup .reducer) valueEdges (pairValues x r (setup .op) places) valueFound → q ≡ placedTo x r setup (length valueEdges) places u v (length places) s
+    → q ≡ placesAdded setup list valueEdges x r places d valueFound s
 unfolding placesAdded
-places-added setup list valueEdges hints table a g j places d found valueFound u v s q t w k e f r =
-    r ∙ (λ i. placedTo a g j setup (length valueEdges) places ((e ∙ found-bins list hints table true (setup .edges) t d found w k) i) (f i) (length places) s)
+places-added setup list valueEdges hints table x r places d found valueFound u v s q t w k e f h =
+    h ∙ (λ i. placedTo x r setup (length valueEdges) places ((e ∙ found-bins list hints table true (setup .edges) t d found w k) i) (f i) (length places) s)
 
 -- ---- a histogram's pairs by their weights
 module _ (e : BuiltEdges) (m n v : ℕ) (x : Datum) (y : Float) (same : x .weight ≡ y) (s : List Float) where
@@ -377,39 +413,39 @@ module _ (e : BuiltEdges) (m n v : ℕ) (x : Datum) (y : Float) (same : x .weigh
   unfolding consumedAt
   weight-alone b = λ i. cond (hasRoom n (builtBins e m) b (length s)) (addIn (below (builtBins e m) (some v)) n b (sym same i) s) s
 
-module _ (setup : Setup) (e : BuiltEdges) (kind : setup .reducer ≡ ComponentSumHistogram e) (m : ℕ) (a : points.Point) (p v w : List Float) (stride j : ℕ) (places found valueFound : List ℕ) where
-  weight-placed : (x b k : ℕ) (s : List Float) → consumedAt (ComponentSumHistogram e) m (some x) (setup .«n_states») b (weightDatum (mul binary64 (a .rd .w) (at w k))) s
-      ≡ pairPlaced setup m x (numberedPair setup a (pointIn p v w stride k) b) s
-  unfolding numberedPair pointIn
-  weight-placed x b k s = go (ltb b (setup .«n_states»)) refl
+module _ (setup : Setup) (e : BuiltEdges) (kind : setup .reducer ≡ ComponentSumHistogram e) (m : ℕ) (x : Reading) (c0 c1 c2 w : List Float) (places found valueFound : List ℕ) where
+  weight-placed : (n b k : ℕ) (s : List Float) → consumedAt (ComponentSumHistogram e) m (some n) (setup .«n_states») b (weightDatum (mul binary64 (x .w) (at w k))) s
+      ≡ pairPlaced setup m n (numberedPair setup x (readingIn c0 c1 c2 w k) b) s
+  unfolding numberedPair readingIn
+  weight-placed n b k s = go (ltb b (setup .«n_states»)) refl
     where
       y : Datum
-      y = datumOf (opOf (setup .op)) (a .rd) (pointIn p v w stride k .rd)
+      y = datumOf (opOf (setup .op)) x (readingIn c0 c1 c2 w k)
 
-      go : (t : Bool) → ltb b (setup .«n_states») ≡ t → consumedAt (ComponentSumHistogram e) m (some x) (setup .«n_states») b (weightDatum (mul binary64 (a .rd .w) (at w k))) s
-          ≡ pairPlaced setup m x (pairIn (cond t (some b) none) y) s
-      go true h = weight-alone e m (setup .«n_states») x y (mul binary64 (a .rd .w) (at w k)) refl s b ∙ ap (λ (r : Reducer). consumedAt r m (some x) (setup .«n_states») b y s) (sym kind)
-      go false h = no-room (ComponentSumHistogram e) m (some x) (setup .«n_states») b _ s (past-states (setup .«n_states») (builtBins e m) b (length s) h)
+      go : (t : Bool) → ltb b (setup .«n_states») ≡ t → consumedAt (ComponentSumHistogram e) m (some n) (setup .«n_states») b (weightDatum (mul binary64 (x .w) (at w k))) s
+          ≡ pairPlaced setup m n (pairIn (cond t (some b) none) y) s
+      go true h = weight-alone e m (setup .«n_states») n y (mul binary64 (x .w) (at w k)) refl s b ∙ ap (λ (r : Reducer). consumedAt r m (some n) (setup .«n_states») b y s) (sym kind)
+      go false h = no-room (ComponentSumHistogram e) m (some n) (setup .«n_states») b _ s (past-states (setup .«n_states») (builtBins e m) b (length s) h)
 
-  weights-placed : (q : ℕ) (s : List Float) → weightsTo e m (setup .«n_states») (a .rd .w) w j places found valueFound q s ≡ placedTo a (pointIn p v w stride) j setup m places found valueFound q s
+  weights-placed : (q : ℕ) (s : List Float) → weightsTo e m (setup .«n_states») (x .w) w places found valueFound q s ≡ placedTo x (readingIn c0 c1 c2 w) setup m places found valueFound q s
   unfolding weightsTo placedTo
   weights-placed zero s = refl
   weights-placed (suc q) s =
-      ap (λ (t : List Float). consumedAt (ComponentSumHistogram e) m (some (getD valueFound q 0)) (setup .«n_states») (getD found q 0) (weightDatum (mul binary64 (a .rd .w) (at w (j + getD places q 0)))) t) (weights-placed q s)
-      ∙ weight-placed (getD valueFound q 0) (getD found q 0) (j + getD places q 0) _
+      ap (λ (t : List Float). consumedAt (ComponentSumHistogram e) m (some (getD valueFound q 0)) (setup .«n_states») (getD found q 0) (weightDatum (mul binary64 (x .w) (at w (getD places q 0)))) t) (weights-placed q s)
+      ∙ weight-placed (getD valueFound q 0) (getD found q 0) (getD places q 0) _
 
-  pub by-weights : (s q : List Float) → q ≡ weightsTo e m (setup .«n_states») (a .rd .w) w j places found valueFound (length places) s
-      → q ≡ placedTo a (pointIn p v w stride) j setup m places found valueFound (length places) s
+  pub by-weights : (s q : List Float) → q ≡ weightsTo e m (setup .«n_states») (x .w) w places found valueFound (length places) s
+      → q ≡ placedTo x (readingIn c0 c1 c2 w) setup m places found valueFound (length places) s
   by-weights s q h = h ∙ weights-placed (length places) s
 
-module _ (e : BuiltEdges) (m n : ℕ) (w : Float) (weights : List Float) (j : ℕ) (places found valueFound : List ℕ) where
-  pub weights-none : (s : List Float) → s ≡ weightsTo e m n w weights j places found valueFound 0 s
+module _ (e : BuiltEdges) (m n : ℕ) (w : Float) (weights : List Float) (places found valueFound : List ℕ) where
+  pub weights-none : (s : List Float) → s ≡ weightsTo e m n w weights places found valueFound 0 s
   unfolding weightsTo
   weights-none s = refl
 
-  pub weights-next : (q : ℕ) (z s r : List Float) → s ≡ weightsTo e m n w weights j places found valueFound q z
-      → r ≡ consumedAt (ComponentSumHistogram e) m (some (getD valueFound q 0)) n (getD found q 0) (weightDatum (mul binary64 w (at weights (j + getD places q 0)))) s
-      → r ≡ weightsTo e m n w weights j places found valueFound (q + 1) z
+  pub weights-next : (q : ℕ) (z s r : List Float) → s ≡ weightsTo e m n w weights places found valueFound q z
+      → r ≡ consumedAt (ComponentSumHistogram e) m (some (getD valueFound q 0)) n (getD found q 0) (weightDatum (mul binary64 w (at weights (getD places q 0)))) s
+      → r ≡ weightsTo e m n w weights places found valueFound (q + 1) z
   unfolding weightsTo
   weights-next q z s r h k = rw (add-one, ← h) k
 

@@ -23,20 +23,18 @@ use Rattle.reducer.specs.Readings.{opOf, theDatum, readingOf}
 use Rattle.reducer.specs.Consume.{consumedAt}
 use Rattle.unstructured.specs.declared.Pair.{Pair}
 use Rattle.unstructured.specs.declared.Pair.the-variants.{Kept, Dropped}
-use Rattle.unstructured_points.specs.declared.Point.{Point}
-use Rattle.unstructured_points.specs.Readings.{thePoint}
 use Rattle.unstructured.specs.declared.Setup.{Setup}
 use Rattle.unstructured.specs.Pairs.{thePair, firstPartner, pairStep, rowAdded, filled}
 use Rattle.unstructured.specs.Batches.{numberedPair, pairPlaced}
 
 -- ---- one pair
-module _ (setup : Setup) (a b : Point) (n : ℕ) (r : BinIndex) (h : indexOf r ≡ below (setup .«n_states») (some n)) where
-  pub pair-kept : (i : ℕ) (d : Datum) → r ≡ At i → theDatum d ≡ datumOf (opOf (setup .op)) (readingOf (a .rd)) (readingOf (b .rd))
-      → definitions.kept i (theDatum d) ≡ numberedPair setup (thePoint a) (thePoint b) n
+module _ (setup : Setup) (a b : Datum) (n : ℕ) (r : BinIndex) (h : indexOf r ≡ below (setup .«n_states») (some n)) where
+  pub pair-kept : (i : ℕ) (d : Datum) → r ≡ At i → theDatum d ≡ datumOf (opOf (setup .op)) (readingOf a) (readingOf b)
+      → definitions.kept i (theDatum d) ≡ numberedPair setup (readingOf a) (readingOf b) n
   unfolding numberedPair
   pair-kept i d t e = rw (← h, t, ← e)
 
-  pub pair-dropped : r ≡ None → definitions.dropped ≡ numberedPair setup (thePoint a) (thePoint b) n
+  pub pair-dropped : r ≡ None → definitions.dropped ≡ numberedPair setup (readingOf a) (readingOf b) n
   unfolding numberedPair
   pair-dropped t = rw (← h, t)
 

@@ -23,7 +23,7 @@ ghost use Rattle.definitions.specs.Run.{merged};
 ghost use Rattle.definitions.specs.Rules.{refusal, met, runRules, step};
 ghost use Rattle.state.specs.Readings.{numberOf};
 ghost use Rattle.bins.specs.Answers.{indexOf};
-ghost use Rattle.reducer.specs.Readings.{edgesOf, kindOf};
+ghost use Rattle.reducer.specs.Readings.{edgesOf, kindOf, readingOf};
 ghost use Rattle.edge_table.specs.Tabled.{Tabled, TabledValues};
 ghost use Rattle.parallel_serial.specs.Drive.{zeroPack, addedScratch};
 ghost use Rattle.parallel_serial.proofs.Refusals.{Drivable};
@@ -31,7 +31,7 @@ ghost use Rattle.unstructured_points.specs.Readings.{pointsOf, thePoint};
 ghost use Rattle.unstructured_points.specs.Sets.{setsFor};
 ghost use Rattle.unstructured.specs.Readings.{setsRun, autoRun, crossRun};
 ghost use Rattle.unstructured.specs.Pairs.{thePair, pointIn, pointsIn, Holds, Readable, Held, firstPartner, builtPair, pairAdded, pairStep, rowAdded, filled};
-ghost use Rattle.unstructured.specs.Batches.{UsableRun, TabledRun, Rooms, Listed, inside, keptBelow, picked, numberedPair, pairPlaced, pairValues, placedTo, weightsTo, valueNumbers, placesAdded};
+ghost use Rattle.unstructured.specs.Batches.{UsableRun, TabledRun, Rooms, Listed, Parts, readingIn, inside, keptBelow, picked, numberedPair, pairPlaced, pairValues, placedTo, weightsTo, valueNumbers, placesAdded};
 
 // What a pair yields: a bin, three component values and a weight, or nothing.
 pub enum Pair {
@@ -83,15 +83,13 @@ fn one_of(n: usize, i: usize) -> BinIndex
     BinIndex::None
 }
 
-// The pair of two points, whose bin has this number; dropped if that is past the bins.
-fn pair_of(setup: Setup, a: Point, b: Point, number: usize) -> Pair
-    ensures { λ r. ⌜ thePair r ≡ numberedPair setup (thePoint a) (thePoint b) number ⌝ }
+// The pair of two points of these readings, whose bin has this number; dropped if that is past the bins.
+fn pair_of(setup: Setup, first: Datum, second: Datum, number: usize) -> Pair
+    ensures { λ r. ⌜ thePair r ≡ numberedPair setup (readingOf first) (readingOf second) number ⌝ }
 {
     match one_of(setup.n_states, number) {
         BinIndex::At(bin) => {
             let op = setup.op;
-            let first = a.rd;
-            let second = b.rd;
             let d = reducer::datum_of(op, first, second);
             Pair::Kept(bin, d.c0, d.c1, d.c2, d.weight)
         }
@@ -171,29 +169,39 @@ fn list_inside(table: Table, m: usize, d: &mut [f64], places: &mut [usize]) -> u
     c
 }
 
-// The values of the pairs of a with the listed points of a batch, whose first point is j.
+// The reading at place k of a batch, from the parts of the slices that start at its first point: a place is the index itself.
+fn reading_at(c0: &[f64], c1: &[f64], c2: &[f64], w: &[f64], k: usize) -> Datum
+    requires { ⌜ Parts (k + 1) (now c0) (now c1) (now c2) (now w) ⌝ }
+    ensures { λ r. ⌜ readingOf r ≡ readingIn (now (c0 .entry)) (now (c1 .entry)) (now (c2 .entry)) (now (w .entry)) k ⌝ }
+{
+    Datum {
+        c0: c0[k],
+        c1: c1[k],
+        c2: c2[k],
+        weight: w[k],
+    }
+}
+
+// The values of the pairs of a point, whose reading is first, with the listed ones of a batch.
 fn pair_values(
     op: PairOperation,
-    a: Point,
-    positions: &[f64],
-    values: &[f64],
-    weights: &[f64],
-    stride: usize,
-    j: usize,
+    first: Datum,
+    c0: &[f64],
+    c1: &[f64],
+    c2: &[f64],
+    w: &[f64],
     m: usize,
     places: &[usize],
     d: &mut [f64],
 )
-    requires { ⌜ Readable (now positions) (now values) (now weights) (j + m) stride ⌝ }
+    requires { ⌜ Parts m (now c0) (now c1) (now c2) (now w) ⌝ }
     requires { ⌜ Listed m (now places) ⌝ }
     requires { ⌜ length (now d) ≡ length (now places) ⌝ }
-    ensures { λ _. ⌜ now (d .exit) ≡ pairValues (thePoint a) (pointIn (now (positions .entry)) (now (values .entry)) (now (weights .entry)) stride) j op (now (places .entry)) ⌝ }
+    ensures { λ _. ⌜ now (d .exit) ≡ pairValues (readingOf first) (readingIn (now (c0 .entry)) (now (c1 .entry)) (now (c2 .entry)) (now (w .entry))) op (now (places .entry)) ⌝ }
 {
-    let first = a.rd;
     let mut q = 0;
     while q < places.len() {
-        let b = point_at(positions, values, weights, stride, j + places[q]);
-        let second = b.rd;
+        let second = reading_at(c0, c1, c2, w, places[q]);
         d[q] = reducer::component_sum(reducer::datum_of(op, first, second));
         q += 1;
     }
@@ -205,23 +213,22 @@ fn value_bins(
     value_edges: &[f64],
     hints: &[u8],
     table: Table,
-    a: Point,
-    positions: &[f64],
-    values: &[f64],
-    weights: &[f64],
-    stride: usize,
-    j: usize,
+    first: Datum,
+    c0: &[f64],
+    c1: &[f64],
+    c2: &[f64],
+    w: &[f64],
     m: usize,
     places: &[usize],
     d: &mut [f64],
     found: &mut [usize],
 )
     requires { ⌜ TabledValues (setup .reducer) (now «value_edges») table ⌝ }
-    requires { ⌜ Readable (now positions) (now values) (now weights) (j + m) stride ⌝ }
+    requires { ⌜ Parts m (now c0) (now c1) (now c2) (now w) ⌝ }
     requires { ⌜ Listed m (now places) ⌝ }
     requires { ⌜ (length (now d) ≡ length (now places)) × (length (now found) ≡ length (now places)) ⌝ }
     ensures { λ _. ⌜ now (found .exit) ≡ valueNumbers (setup .reducer) (now («value_edges» .entry))
-        (pairValues (thePoint a) (pointIn (now (positions .entry)) (now (values .entry)) (now (weights .entry)) stride) j (setup .op) (now (places .entry))) (now (found .entry)) ⌝ }
+        (pairValues (readingOf first) (readingIn (now (c0 .entry)) (now (c1 .entry)) (now (c2 .entry)) (now (w .entry))) (setup .op) (now (places .entry))) (now (found .entry)) ⌝ }
 {
     let kind = setup.reducer;
     let op = setup.op;
@@ -229,49 +236,37 @@ fn value_bins(
         Reducer::Comp0Mean => {}
         Reducer::ComponentSumMean => {}
         Reducer::ComponentSumHistogram(edges) => {
-            pair_values(
-                op,
-                a,
-                positions,
-                values,
-                weights,
-                stride,
-                j,
-                m,
-                places,
-                &mut *d,
-            );
+            pair_values(op, first, c0, c1, c2, w, m, places, &mut *d);
             edge_table::bins_of(false, edges, value_edges, hints, table, &*d, &mut *found);
         }
     }
 }
 
-// The pairs of a with the listed points, whose bins and whose values' bins have been found.
+// The pairs of a point with the listed ones, whose bins and whose values' bins have been found.
 fn add_pairs(
     setup: Setup,
     value_len: usize,
-    a: Point,
-    positions: &[f64],
-    values: &[f64],
-    weights: &[f64],
-    stride: usize,
-    j: usize,
+    first: Datum,
+    c0: &[f64],
+    c1: &[f64],
+    c2: &[f64],
+    w: &[f64],
     m: usize,
     places: &[usize],
     found: &[usize],
     value_found: &[usize],
     scratch: &mut [f64],
 )
-    requires { ⌜ Readable (now positions) (now values) (now weights) (j + m) stride ⌝ }
+    requires { ⌜ Parts m (now c0) (now c1) (now c2) (now w) ⌝ }
     requires { ⌜ Listed m (now places) ⌝ }
     requires { ⌜ (length (now found) ≡ length (now places)) × (length (now «value_found») ≡ length (now places)) ⌝ }
-    ensures { λ _. ⌜ now (scratch .exit) ≡ placedTo (thePoint a) (pointIn (now (positions .entry)) (now (values .entry)) (now (weights .entry)) stride) j setup «value_len»
+    ensures { λ _. ⌜ now (scratch .exit) ≡ placedTo (readingOf first) (readingIn (now (c0 .entry)) (now (c1 .entry)) (now (c2 .entry)) (now (w .entry))) setup «value_len»
         (now (places .entry)) (now (found .entry)) (now («value_found» .entry)) (length (now (places .entry))) (now (scratch .entry)) ⌝ }
 {
     let mut q = 0;
     while q < places.len() {
-        let b = point_at(positions, values, weights, stride, j + places[q]);
-        let pair = pair_of(setup, a, b, found[q]);
+        let second = reading_at(c0, c1, c2, w, places[q]);
+        let pair = pair_of(setup, first, second, found[q]);
         add_pair(setup, value_len, value_found[q], pair, &mut *scratch);
         q += 1;
     }
@@ -281,22 +276,21 @@ fn add_pairs(
 fn add_listed(
     setup: Setup,
     value_len: usize,
-    a: Point,
-    positions: &[f64],
-    values: &[f64],
-    weights: &[f64],
-    stride: usize,
-    j: usize,
+    first: Datum,
+    c0: &[f64],
+    c1: &[f64],
+    c2: &[f64],
+    w: &[f64],
     m: usize,
     places: &[usize],
     found: &[usize],
     value_found: &[usize],
     scratch: &mut [f64],
 )
-    requires { ⌜ Readable (now positions) (now values) (now weights) (j + m) stride ⌝ }
+    requires { ⌜ Parts m (now c0) (now c1) (now c2) (now w) ⌝ }
     requires { ⌜ Listed m (now places) ⌝ }
     requires { ⌜ (length (now found) ≡ length (now places)) × (length (now «value_found») ≡ length (now places)) ⌝ }
-    ensures { λ _. ⌜ now (scratch .exit) ≡ placedTo (thePoint a) (pointIn (now (positions .entry)) (now (values .entry)) (now (weights .entry)) stride) j setup «value_len»
+    ensures { λ _. ⌜ now (scratch .exit) ≡ placedTo (readingOf first) (readingIn (now (c0 .entry)) (now (c1 .entry)) (now (c2 .entry)) (now (w .entry))) setup «value_len»
         (now (places .entry)) (now (found .entry)) (now («value_found» .entry)) (length (now (places .entry))) (now (scratch .entry)) ⌝ }
 {
     let edges = setup.edges;
@@ -317,12 +311,11 @@ fn add_listed(
                             n_states,
                         },
                         value_len,
-                        a,
-                        positions,
-                        values,
-                        weights,
-                        stride,
-                        j,
+                        first,
+                        c0,
+                        c1,
+                        c2,
+                        w,
                         m,
                         places,
                         found,
@@ -338,12 +331,11 @@ fn add_listed(
                         n_states,
                     },
                     value_len,
-                    a,
-                    positions,
-                    values,
-                    weights,
-                    stride,
-                    j,
+                    first,
+                    c0,
+                    c1,
+                    c2,
+                    w,
                     m,
                     places,
                     found,
@@ -362,12 +354,11 @@ fn add_listed(
                     n_states,
                 },
                 value_len,
-                a,
-                positions,
-                values,
-                weights,
-                stride,
-                j,
+                first,
+                c0,
+                c1,
+                c2,
+                w,
                 m,
                 places,
                 found,
@@ -378,23 +369,22 @@ fn add_listed(
     }
 }
 
-// The weights of a histogram's pairs: each is a's times its second point's. What is past the states or the values' bins has no room.
+// The weights of a histogram's pairs: each is the first point's times the second's. What is past the states or the values' bins has no room.
 fn add_weights(
     edges: BuiltEdges,
     value_len: usize,
     n_states: usize,
     weight: f64,
-    weights: &[f64],
-    j: usize,
+    w: &[f64],
     m: usize,
     places: &[usize],
     found: &[usize],
     value_found: &[usize],
     scratch: &mut [f64],
 )
-    requires { ⌜ (j + m ≤ 4096) × (j + m ≤ length (now weights)) × Listed m (now places) ⌝ }
+    requires { ⌜ (m ≤ 4096) × (m ≤ length (now w)) × Listed m (now places) ⌝ }
     requires { ⌜ (length (now found) ≡ length (now places)) × (length (now «value_found») ≡ length (now places)) ⌝ }
-    ensures { λ _. ⌜ now (scratch .exit) ≡ weightsTo edges «value_len» «n_states» weight (now (weights .entry)) j
+    ensures { λ _. ⌜ now (scratch .exit) ≡ weightsTo edges «value_len» «n_states» weight (now (w .entry))
         (now (places .entry)) (now (found .entry)) (now («value_found» .entry)) (length (now (places .entry))) (now (scratch .entry)) ⌝ }
 {
     let mut q = 0;
@@ -403,7 +393,7 @@ fn add_weights(
             c0: 0.0,
             c1: 0.0,
             c2: 0.0,
-            weight: weight * weights[j + places[q]],
+            weight: weight * w[places[q]],
         };
         reducer::consume_at(
             Reducer::ComponentSumHistogram(edges),
@@ -418,26 +408,25 @@ fn add_weights(
     }
 }
 
-// The pairs of a with the listed points; a histogram's by their weights alone.
+// The pairs of a point with the listed ones; a histogram's by their weights alone.
 fn add_found(
     setup: Setup,
     value_len: usize,
-    a: Point,
-    positions: &[f64],
-    values: &[f64],
-    weights: &[f64],
-    stride: usize,
-    j: usize,
+    first: Datum,
+    c0: &[f64],
+    c1: &[f64],
+    c2: &[f64],
+    w: &[f64],
     m: usize,
     places: &[usize],
     found: &[usize],
     value_found: &[usize],
     scratch: &mut [f64],
 )
-    requires { ⌜ Readable (now positions) (now values) (now weights) (j + m) stride ⌝ }
+    requires { ⌜ Parts m (now c0) (now c1) (now c2) (now w) ⌝ }
     requires { ⌜ Listed m (now places) ⌝ }
     requires { ⌜ (length (now found) ≡ length (now places)) × (length (now «value_found») ≡ length (now places)) ⌝ }
-    ensures { λ _. ⌜ now (scratch .exit) ≡ placedTo (thePoint a) (pointIn (now (positions .entry)) (now (values .entry)) (now (weights .entry)) stride) j setup «value_len»
+    ensures { λ _. ⌜ now (scratch .exit) ≡ placedTo (readingOf first) (readingIn (now (c0 .entry)) (now (c1 .entry)) (now (c2 .entry)) (now (w .entry))) setup «value_len»
         (now (places .entry)) (now (found .entry)) (now («value_found» .entry)) (length (now (places .entry))) (now (scratch .entry)) ⌝ }
 {
     let kind = setup.reducer;
@@ -445,14 +434,12 @@ fn add_found(
         Reducer::Comp0Mean => {}
         Reducer::ComponentSumMean => {}
         Reducer::ComponentSumHistogram(edges) => {
-            let first = a.rd;
             add_weights(
                 edges,
                 value_len,
                 setup.n_states,
                 first.weight,
-                weights,
-                j,
+                w,
                 m,
                 places,
                 found,
@@ -465,12 +452,11 @@ fn add_found(
     add_listed(
         setup,
         value_len,
-        a,
-        positions,
-        values,
-        weights,
-        stride,
-        j,
+        first,
+        c0,
+        c1,
+        c2,
+        w,
         m,
         places,
         found,
@@ -479,7 +465,7 @@ fn add_found(
     );
 }
 
-// The pairs of a with the listed points, whose distances are in d. d, found and value_found are room.
+// The pairs of a point with the listed ones, whose distances are in d. d, found and value_found are room.
 fn add_places(
     setup: Setup,
     list: &[f64],
@@ -487,12 +473,11 @@ fn add_places(
     hints: &[u8],
     value_hints: &[u8],
     tables: Tables,
-    a: Point,
-    positions: &[f64],
-    values: &[f64],
-    weights: &[f64],
-    stride: usize,
-    j: usize,
+    first: Datum,
+    c0: &[f64],
+    c1: &[f64],
+    c2: &[f64],
+    w: &[f64],
     m: usize,
     places: &[usize],
     d: &mut [f64],
@@ -501,11 +486,11 @@ fn add_places(
     scratch: &mut [f64],
 )
     requires { ⌜ TabledRun setup (now list) (now «value_edges») tables ⌝ }
-    requires { ⌜ Readable (now positions) (now values) (now weights) (j + m) stride ⌝ }
+    requires { ⌜ Parts m (now c0) (now c1) (now c2) (now w) ⌝ }
     requires { ⌜ Listed m (now places) ⌝ }
     requires { ⌜ (length (now d) ≡ length (now places)) × (length (now found) ≡ length (now places)) × (length (now «value_found») ≡ length (now places)) ⌝ }
-    ensures { λ _. ⌜ now (scratch .exit) ≡ placesAdded setup (now (list .entry)) (now («value_edges» .entry)) (thePoint a)
-        (pointIn (now (positions .entry)) (now (values .entry)) (now (weights .entry)) stride) j (now (places .entry)) (now (d .entry)) (now («value_found» .entry)) (now (scratch .entry)) ⌝ }
+    ensures { λ _. ⌜ now (scratch .exit) ≡ placesAdded setup (now (list .entry)) (now («value_edges» .entry)) (readingOf first)
+        (readingIn (now (c0 .entry)) (now (c1 .entry)) (now (c2 .entry)) (now (w .entry))) (now (places .entry)) (now (d .entry)) (now («value_found» .entry)) (now (scratch .entry)) ⌝ }
 {
     let edges = setup.edges;
     let table = tables.edges;
@@ -516,12 +501,11 @@ fn add_places(
         value_edges,
         value_hints,
         value_table,
-        a,
-        positions,
-        values,
-        weights,
-        stride,
-        j,
+        first,
+        c0,
+        c1,
+        c2,
+        w,
         m,
         places,
         d,
@@ -530,12 +514,11 @@ fn add_places(
     add_found(
         setup,
         value_edges.len(),
-        a,
-        positions,
-        values,
-        weights,
-        stride,
-        j,
+        first,
+        c0,
+        c1,
+        c2,
+        w,
         m,
         places,
         &*found,
@@ -579,6 +562,11 @@ fn add_batch(
         (pointIn (now (positions .entry)) (now (values .entry)) (now (weights .entry)) stride) j m (now (scratch .entry)) ⌝ }
 {
     let table = tables.edges;
+    let first = a.rd;
+    let c0 = &values[j..];
+    let c1 = &values[stride + j..];
+    let c2 = &values[2 * stride + j..];
+    let w = &weights[j..];
     distances(a, positions, values, weights, stride, j, m, &mut *d);
     let c = list_inside(table, m, &mut *d, &mut *places);
     add_places(
@@ -588,12 +576,11 @@ fn add_batch(
         hints,
         value_hints,
         tables,
-        a,
-        positions,
-        values,
-        weights,
-        stride,
-        j,
+        first,
+        c0,
+        c1,
+        c2,
+        w,
         m,
         &places[..c],
         &mut d[..c],

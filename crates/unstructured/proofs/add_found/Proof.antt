@@ -1,4 +1,4 @@
-use Rattle.unstructured_points.specs.Readings.{thePoint}
+use Rattle.reducer.specs.Readings.{readingOf}
 use Rattle.unstructured.proofs.Batches.{by-weights}
 use borrow.Author.Needs.{needs}
 use Rattle.unstructured.proofs.add_found.Statement.{statement}
@@ -29,7 +29,7 @@ same-length c = search needs
 -- src/lib.rt:437:13
 returns : tie.Need-returns
 returns c = let x = c .before .before .before .before .before .before .before .before .before .before .before .before .before .before .before .args in
-    by-weights (x .setup) _ (c .before .before .before .before .before .before .kind .given .1) _ (thePoint (x .a)) (x .positions .now) (x .values .now) (x .weights .now) (x .stride) (x .j) _ _ _ _ _ (c .before .before .add-weights .ensures)
+    by-weights (x .setup) _ (c .before .before .before .before .before .kind .given .1) _ (readingOf (x .first)) (x .c0 .now) (x .c1 .now) (x .c2 .now) (x .w .now) _ _ _ _ _ (c .before .before .add-weights .ensures)
 
 -- src/lib.rt:440:5
 add-listed-requires : tie.Need-add-listed-requires

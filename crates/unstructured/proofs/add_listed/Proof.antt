@@ -1,6 +1,6 @@
 use mathlib.Core.Path.{refl}
-use Rattle.unstructured_points.specs.Readings.{thePoint}
-use Rattle.unstructured.specs.Pairs.{pointIn}
+use Rattle.reducer.specs.Readings.{readingOf}
+use Rattle.unstructured.specs.Batches.{readingIn}
 use Rattle.unstructured.proofs.Batches.{placed-by}
 use borrow.Author.Needs.{needs}
 use Rattle.unstructured.proofs.add_listed.Statement.{statement}
@@ -39,8 +39,8 @@ same-length c = search needs
 
 -- src/lib.rt:281:1
 returns : tie.Need-returns
-returns c = let x = c .before .before .before .before .before .before .before .before .before .before .before .before .before .before .before .args in
-    placed-by (x .setup) (x .value-len) (thePoint (x .a)) (pointIn (x .positions .now) (x .values .now) (x .weights .now) (x .stride)) (x .j) (x .places .now) (x .found .now) (x .value-found .now) _ _ (x .scratch .now) _ (c .before .before .before .before .before .before .enum-told .given .1) (c .before .before .before .before .enum-told2 .given .1) (c .before .before .add-pairs .ensures)
+returns c = let x = c .before .before .before .before .before .before .before .before .before .before .before .before .before .before .before .before .args in
+    placed-by (x .setup) (x .value-len) (readingOf (x .first)) (readingIn (x .c0 .now) (x .c1 .now) (x .c2 .now) (x .w .now)) (x .places .now) (x .found .now) (x .value-found .now) _ _ (x .scratch .now) _ (c .before .before .before .before .before .before .enum-told .given .1) (c .before .before .before .before .enum-told2 .given .1) (c .before .before .add-pairs .ensures)
 
 -- src/lib.rt:281:1
 same-length-2 : tie.Need-same-length-2
@@ -48,8 +48,8 @@ same-length-2 c = search needs
 
 -- src/lib.rt:281:1
 returns-2 : tie.Need-returns-2
-returns-2 c = let x = c .before .before .before .before .before .before .before .before .before .before .before .before .before .before .args in
-    placed-by (x .setup) (x .value-len) (thePoint (x .a)) (pointIn (x .positions .now) (x .values .now) (x .weights .now) (x .stride)) (x .j) (x .places .now) (x .found .now) (x .value-found .now) _ _ (x .scratch .now) _ (c .before .before .before .before .before .enum-told .given .1) refl (c .before .before .add-pairs2 .ensures)
+returns-2 c = let x = c .before .before .before .before .before .before .before .before .before .before .before .before .before .before .before .args in
+    placed-by (x .setup) (x .value-len) (readingOf (x .first)) (readingIn (x .c0 .now) (x .c1 .now) (x .c2 .now) (x .w .now)) (x .places .now) (x .found .now) (x .value-found .now) _ _ (x .scratch .now) _ (c .before .before .before .before .before .enum-told .given .1) refl (c .before .before .add-pairs2 .ensures)
 
 -- src/lib.rt:281:1
 same-length-3 : tie.Need-same-length-3
@@ -57,8 +57,8 @@ same-length-3 c = search needs
 
 -- src/lib.rt:281:1
 returns-3 : tie.Need-returns-3
-returns-3 c = let x = c .before .before .before .before .before .before .before .before .before .before .before .before .before .args in
-    placed-by (x .setup) (x .value-len) (thePoint (x .a)) (pointIn (x .positions .now) (x .values .now) (x .weights .now) (x .stride)) (x .j) (x .places .now) (x .found .now) (x .value-found .now) _ _ (x .scratch .now) _ (c .before .before .before .before .enum-told3 .given .1) refl (c .before .before .add-pairs3 .ensures)
+returns-3 c = let x = c .before .before .before .before .before .before .before .before .before .before .before .before .before .before .args in
+    placed-by (x .setup) (x .value-len) (readingOf (x .first)) (readingIn (x .c0 .now) (x .c1 .now) (x .c2 .now) (x .w .now)) (x .places .now) (x .found .now) (x .value-found .now) _ _ (x .scratch .now) _ (c .before .before .before .before .enum-told3 .given .1) refl (c .before .before .add-pairs3 .ensures)
 
 pub add-listed-spec : {M : Type 1} → statement M
 add-listed-spec =

@@ -1,6 +1,6 @@
 use mathlib.Core.Path.{sym, _∙_}
-use Rattle.unstructured_points.specs.Readings.{thePoint}
-use Rattle.unstructured.specs.Pairs.{pointIn}
+use Rattle.reducer.specs.Readings.{readingOf}
+use Rattle.unstructured.specs.Batches.{readingIn}
 use Rattle.unstructured.proofs.Batches.{places-added}
 use borrow.Author.Needs.{needs}
 use Rattle.unstructured.proofs.add_places.Statement.{statement}
@@ -17,15 +17,15 @@ bins-of-requires c κs = search needs
 
 -- src/lib.rt:489:5
 value-bins-requires : tie.Need-value-bins-requires
-value-bins-requires c κs = let s = c .before .before .before .before .before .before .before .before .before .before .before .before .before .before .before .before .before .before .before .before .before in
+value-bins-requires c κs = let s = c .before .before .before .before .before .before .before .before .before .before .before .before .before .before .before .before .before .before .before .before .before .before in
     let l = s .pre .1 .1 .1 in
     (s .pre .0 .values, (s .pre .1 .0, (s .pre .1 .1 .0, (l .0, l .2))))
 
 -- src/lib.rt:505:5
 add-found-requires : tie.Need-add-found-requires
-add-found-requires c κs = let s = c .before .before .before .before .before .before .before .before .before .before .before .before .before .before .before .before .before .before .before .before .before .before .before .before .before .before .before .before .before in
+add-found-requires c κs = let s = c .before .before .before .before .before .before .before .before .before .before .before .before .before .before .before .before .before .before .before .before .before .before .before .before .before .before .before .before .before .before in
     let l = s .pre .1 .1 .1 in
-    (s .pre .1 .0, (s .pre .1 .1 .0, (c .before .before .before .before .before .before .before .before .before .before .before .before .bins-of .kept .1 .1 .1 .1 .1 .1 .0 ∙ l .1, c .before .before .before .before .before .before .before .value-bins .kept .1 .1 .1 .1 .1 .1 .1 .1 .1 .1 .1 .1 .1 .0 ∙ l .2)))
+    (s .pre .1 .0, (s .pre .1 .1 .0, (c .before .before .before .before .before .before .before .before .before .before .before .before .bins-of .kept .1 .1 .1 .1 .1 .1 .0 ∙ l .1, c .before .before .before .before .before .before .before .value-bins .kept .1 .1 .1 .1 .1 .1 .1 .1 .1 .1 .1 .1 .0 ∙ l .2)))
 
 -- src/lib.rt:458:1
 same-length : tie.Need-same-length
@@ -45,10 +45,10 @@ same-length-4 c = search needs
 
 -- src/lib.rt:458:1
 returns : tie.Need-returns
-returns c = let s = c .before .before .before .before .before .before .before .before .before .before .before .before .before .before .before .before .before .before .before .before .before .before .before .before .before .before .before .before .before .before .before .before in
+returns c = let s = c .before .before .before .before .before .before .before .before .before .before .before .before .before .before .before .before .before .before .before .before .before .before .before .before .before .before .before .before .before .before .before .before .before in
     let x = s .args in
     let l = s .pre .1 .1 .1 in
-    places-added (x .setup) (x .list .now) (x .value-edges .now) (x .hints .now) (x .tables .edges) (thePoint (x .a)) (pointIn (x .positions .now) (x .values .now) (x .weights .now) (x .stride)) (x .j) (x .places .now) (x .d .now) (x .found .now) (x .value-found .now) _ _ (x .scratch .now) _ (s .pre .0 .edges) (c .before .before .before .before .before .before .before .before .before .before .before .before .before .before .before .before .before .before .before .before .before .before .before .slice-known .given) (l .1 ∙ sym (l .0)) (c .before .before .before .before .before .before .before .before .before .before .before .before .before .before .before .bins-of .ensures) (c .before .before .before .before .before .before .before .before .before .before .value-bins .ensures) (c .before .before .add-found .ensures)
+    places-added (x .setup) (x .list .now) (x .value-edges .now) (x .hints .now) (x .tables .edges) (readingOf (x .first)) (readingIn (x .c0 .now) (x .c1 .now) (x .c2 .now) (x .w .now)) (x .places .now) (x .d .now) (x .found .now) (x .value-found .now) _ _ (x .scratch .now) _ (s .pre .0 .edges) (c .before .before .before .before .before .before .before .before .before .before .before .before .before .before .before .before .before .before .before .before .before .before .before .slice-known .given) (l .1 ∙ sym (l .0)) (c .before .before .before .before .before .before .before .before .before .before .before .before .before .before .before .bins-of .ensures) (c .before .before .before .before .before .before .before .before .before .before .value-bins .ensures) (c .before .before .add-found .ensures)
 
 pub add-places-spec : {M : Type 1} → statement M
 add-places-spec =

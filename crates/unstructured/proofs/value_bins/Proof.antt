@@ -1,6 +1,6 @@
 use mathlib.Core.Path.{sym, _∙_}
-use Rattle.unstructured_points.specs.Readings.{thePoint}
-use Rattle.unstructured.specs.Pairs.{pointIn}
+use Rattle.reducer.specs.Readings.{readingOf}
+use Rattle.unstructured.specs.Batches.{readingIn}
 use Rattle.unstructured.proofs.Batches.{value-mean0, value-mean, value-found, values-fit}
 use borrow.Author.Needs.{needs}
 use Rattle.unstructured.proofs.value_bins.Statement.{statement}
@@ -46,12 +46,12 @@ same-length-2 c = search needs
 
 -- src/lib.rt:203:1
 returns-3 : tie.Need-returns-3
-returns-3 c = let s = c .before .before .before .before .before .before .before .before .before .before .before .before .before .before .before .before .before .before .before .before in
+returns-3 c = let s = c .before .before .before .before .before .before .before .before .before .before .before .before .before .before .before .before .before .before .before .before .before in
     let x = s .args in
     let p = c .before .before .before .before .before .before .before .pair-values in
-    let l = p .kept .1 .1 .1 .1 .1 .1 .1 .1 .1 .0 ∙ s .pre .1 .1 .1 .0 in
-    value-found (x .setup .reducer) (x .value-edges .now) (x .found .now) _ _ (x .hints .now) (x .table) (p .last .1 .1 .1 .1 .1 .1 .1 .1 .1 .0) _ (c .before .before .before .before .before .before .before .before .before .before .kind .given .1) (s .pre .0)
-    (values-fit (thePoint (x .a)) (pointIn (x .positions .now) (x .values .now) (x .weights .now) (x .stride)) (x .j) (x .setup .op) (x .places .now)) (s .pre .1 .1 .1 .1 ∙ sym l) (p .ensures) (c .before .before .bins-of .ensures)
+    let l = p .kept .1 .1 .1 .1 .1 .1 .1 .1 .0 ∙ s .pre .1 .1 .1 .0 in
+    value-found (x .setup .reducer) (x .value-edges .now) (x .found .now) _ _ (x .hints .now) (x .table) (p .last .1 .1 .1 .1 .1 .1 .1 .1 .0) _ (c .before .before .before .before .before .before .before .before .before .before .kind .given .1) (s .pre .0)
+    (values-fit (readingOf (x .first)) (readingIn (x .c0 .now) (x .c1 .now) (x .c2 .now) (x .w .now)) (x .setup .op) (x .places .now)) (s .pre .1 .1 .1 .1 ∙ sym l) (p .ensures) (c .before .before .bins-of .ensures)
 
 pub value-bins-spec : {M : Type 1} → statement M
 value-bins-spec =
