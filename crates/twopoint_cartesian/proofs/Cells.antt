@@ -74,6 +74,10 @@ count-b : (L M : ℕ) (d : ℤ) → Within L M d → startB d + count L M d ≤ 
 count-b L M (pos n) w = omega arith
 count-b L M (negsuc m) w = omega arith
 
+pub count-least : (L M : ℕ) (d : ℤ) → Within L M d → 1 ≤ count L M d
+count-least L M (pos n) w = omega arith
+count-least L M (negsuc m) w = omega arith
+
 -- the cells from s on, n on each axis, are in the slices
 module _ (b : CartesianBlock) (h : Ready b) (s : Cell) (n : Axes) (hz : s .z + n .z ≤ b .nz) (hy : s .y + n .y ≤ b .ny) (hx : s .x + n .x ≤ b .nx) (ky : s .y < b .ny) where
   first-x : s .x * b .sx ≡ s .x

@@ -5,7 +5,7 @@ use mathlib.Core.List.{List, [], _∷_}
 use mathlib.Core.Bool.{Bool, true, false, cond}
 use Prim.Native.Nat.{ℕ, _+_, _*_, _≤_, _<_}
 use lib.Dec.{ltb}
-use lib.ListN.{length, getD, replicate}
+use lib.ListN.{length, getD, take, drop, replicate}
 use lib.IntN.{ℤ, natAbs}
 use lib.Ieee.{Float, binary64, add, mul}
 use Rattle.definitions.specs.Lists.{at}
@@ -138,10 +138,29 @@ pub record Binned (setup : Setup) (edges : BuiltEdges) (valueEdges : List Float)
   pub sized : size ≡ builtBins edges (length valueEdges)
   pub small : size ≤ 256
 
--- room for a row of n
+-- the values of m rows of n, one row after another
+pub record Gathered (setup : Setup) (a b : Fields) (i j sa sb n m : ℕ) (values : List Float) : Type 0 where
+  pub value : (r x : ℕ) → r < m → x < n → at values (r * n + x) ≡ rowValue setup a b (i + r * sa) (j + r * sb) x
+
+-- m rows of n, s apart, are in a slice of this length
+pub record RowsIn (len i s n m : ℕ) : Type 0 where
+  pub row : (r : ℕ) → r < m → i + r * s + n ≤ len
+
+-- the weights of the rows from r on, m of them; found has the bins of one row after another
+unfoldable pub rowsWeighted : List Float → List Float → ℕ → ℕ → ℕ → ℕ → ℕ → List ℕ → ℕ → ℕ → List Float → List Float
+rowsWeighted aw bw i j sa sb n found r m s = loopLeft (λ r s. weightsAdded aw bw (i + r * sa) (j + r * sb) (take n (drop (r * n) found)) 0 n s) r m s
+
+-- room for a row of n; the rooms are of one length
 pub record RowRoom (n v f : ℕ) : Type 0 where
-  pub values : v ≡ n
-  pub found : f ≡ n
+  pub least : 1 ≤ n
+  pub values : n ≤ v
+  pub found : f ≡ v
+
+-- room for m rows of n
+pub record RowsRoom (m n v f : ℕ) : Type 0 where
+  pub least : 1 ≤ m
+  pub values : m * n ≤ v
+  pub found : f ≡ v
 
 -- room for the longest row
 abbrev pub Wide : ℕ → ℕ → Type 0

@@ -35,7 +35,7 @@ ghost use Rattle.idx_3d_offset.specs.Offsets.{idxOf, Axis, Walkable, lowest as 
 ghost use Rattle.spatial.specs.Readings.{blockOf, widthOf};
 ghost use Rattle.spatial.specs.Refusals.{setsFor};
 ghost use Rattle.twopoint_cartesian.specs.Readings.{axesOf, setsRun, autoRun, crossRun};
-ghost use Rattle.twopoint_cartesian.specs.Cells.{fields, readingIn, datumIn, rowValue, weightAdded, weightsAdded, Binned, RowRoom, Wide, Holds, RowFits, PlaneFits, BlockFits, Near, AllNear, Ready, Placed, rowAdded, scalarOf, isMean, cellsInMean, rowInMean, planeInMean, blockInMean, offsetMean, meanState, Looked, Findable, planeAdded, blockAdded, firstA, firstB, overlapOf, offsetCells, zeroState, fresh, Room, Roomy, stateMerged, mergedIn, offsetAdded, offsetsAdded, seqFor};
+ghost use Rattle.twopoint_cartesian.specs.Cells.{fields, readingIn, datumIn, rowValue, weightAdded, weightsAdded, Binned, RowRoom, RowsRoom, RowsIn, Gathered, rowsWeighted, Wide, Holds, RowFits, PlaneFits, BlockFits, Near, AllNear, Ready, Placed, rowAdded, scalarOf, isMean, cellsInMean, rowInMean, planeInMean, blockInMean, offsetMean, meanState, Looked, Findable, planeAdded, blockAdded, firstA, firstB, overlapOf, offsetCells, zeroState, fresh, Room, Roomy, stateMerged, mergedIn, offsetAdded, offsetsAdded, seqFor};
 
 // What is the same for each offset of a run.
 struct Setup {
@@ -117,7 +117,8 @@ fn datum_at(
     reducer::datum_of(op, a, b)
 }
 
-// The value of each pair of a row: n cells of a from i on, each with b's from j on. A loop of its own goes several cells at a time.
+// The value of each pair of a row: n cells of a from i on, each with b's from j on. Two cells are read before either is written, so that no test for slices
+// that overlap is needed to do both at once.
 fn gather_row(
     setup: Setup,
     a0: &[f64],
@@ -136,9 +137,61 @@ fn gather_row(
     requires { ⌜ RowFits (fields (now a0) (now a1) (now a2) (now aw)) i n ⌝ ∗ ⌜ RowFits (fields (now b0) (now b1) (now b2) (now bw)) j n ⌝ ∗ ⌜ n ≤ length (now values) ⌝ }
     ensures { λ _. ⌜ now (values .exit) ≡ overwritten n (rowValue setup (fields (now (a0 .entry)) (now (a1 .entry)) (now (a2 .entry)) (now (aw .entry))) (fields (now (b0 .entry)) (now (b1 .entry)) (now (b2 .entry)) (now (bw .entry))) i j) (now (values .entry)) ⌝ }
 {
-    for x in 0..n {
+    let mut x = 0;
+    while x + 1 < n {
+        let y = x + 1;
+        let d = datum_at(setup, a0, a1, a2, aw, b0, b1, b2, bw, i + x, j + x);
+        let e = datum_at(setup, a0, a1, a2, aw, b0, b1, b2, bw, i + y, j + y);
+        values[x] = reducer::component_sum(d);
+        values[y] = reducer::component_sum(e);
+        x = y + 1;
+    }
+    if x < n {
         let d = datum_at(setup, a0, a1, a2, aw, b0, b1, b2, bw, i + x, j + x);
         values[x] = reducer::component_sum(d);
+    }
+}
+
+// The same for m rows, one after another: each a stride after the one before, sa in a, sb in b.
+fn gather_rows(
+    setup: Setup,
+    a0: &[f64],
+    a1: &[f64],
+    a2: &[f64],
+    aw: &[f64],
+    b0: &[f64],
+    b1: &[f64],
+    b2: &[f64],
+    bw: &[f64],
+    i: usize,
+    j: usize,
+    sa: usize,
+    sb: usize,
+    n: usize,
+    m: usize,
+    values: &mut [f64],
+)
+    requires { ⌜ PlaneFits (fields (now a0) (now a1) (now a2) (now aw)) i sa n m ⌝ ∗ ⌜ PlaneFits (fields (now b0) (now b1) (now b2) (now bw)) j sb n m ⌝ ∗ ⌜ m * n ≤ length (now values) ⌝ }
+    ensures { λ _. ⌜ Gathered setup (fields (now (a0 .entry)) (now (a1 .entry)) (now (a2 .entry)) (now (aw .entry)))
+        (fields (now (b0 .entry)) (now (b1 .entry)) (now (b2 .entry)) (now (bw .entry))) i j sa sb n m (now (values .exit)) ⌝ }
+{
+    for r in 0..m {
+        let first = r * n;
+        gather_row(
+            setup,
+            a0,
+            a1,
+            a2,
+            aw,
+            b0,
+            b1,
+            b2,
+            bw,
+            i + r * sa,
+            j + r * sb,
+            n,
+            &mut values[first..first + n],
+        );
     }
 }
 
@@ -161,8 +214,37 @@ fn add_weights(aw: &[f64], bw: &[f64], i: usize, j: usize, found: &[usize], stat
     }
 }
 
-// n cells of a from i on, each with b's from j on. All but the state is room.
-fn add_row(
+// The weights of m rows, each to the bin found for it.
+fn add_found(
+    aw: &[f64],
+    bw: &[f64],
+    i: usize,
+    j: usize,
+    sa: usize,
+    sb: usize,
+    n: usize,
+    m: usize,
+    found: &[usize],
+    state: &mut [f64],
+)
+    requires { ⌜ RowsIn (length (now aw)) i sa n m ⌝ ∗ ⌜ RowsIn (length (now bw)) j sb n m ⌝ ∗ ⌜ m * n ≤ length (now found) ⌝ }
+    ensures { λ _. ⌜ now (state .exit) ≡ rowsWeighted (now (aw .entry)) (now (bw .entry)) i j sa sb n (now (found .entry)) 0 m (now (state .entry)) ⌝ }
+{
+    for r in 0..m {
+        let first = r * n;
+        add_weights(
+            aw,
+            bw,
+            i + r * sa,
+            j + r * sb,
+            &found[first..first + n],
+            state,
+        );
+    }
+}
+
+// m rows of n cells, looked up together. All but the state is room.
+fn add_rows(
     setup: Setup,
     edges: BuiltEdges,
     table: Table,
@@ -178,22 +260,49 @@ fn add_row(
     bw: &[f64],
     i: usize,
     j: usize,
+    sa: usize,
+    sb: usize,
     n: usize,
+    m: usize,
     values: &mut [f64],
     found: &mut [usize],
     state: &mut [f64],
 )
-    requires { ⌜ RowFits (fields (now a0) (now a1) (now a2) (now aw)) i n ⌝ ∗ ⌜ RowFits (fields (now b0) (now b1) (now b2) (now bw)) j n ⌝ }
-    requires { ⌜ Binned setup edges (now «value_edges») table (length (now state)) ⌝ ∗ ⌜ RowRoom n (length (now values)) (length (now found)) ⌝ }
-    ensures { λ _. ⌜ now (state .exit) ≡ rowAdded setup (now («value_edges» .entry)) (fields (now (a0 .entry)) (now (a1 .entry)) (now (a2 .entry)) (now (aw .entry)))
-        (fields (now (b0 .entry)) (now (b1 .entry)) (now (b2 .entry)) (now (bw .entry))) i j 0 n (now (state .entry)) ⌝ }
+    requires { ⌜ PlaneFits (fields (now a0) (now a1) (now a2) (now aw)) i sa n m ⌝ ∗ ⌜ PlaneFits (fields (now b0) (now b1) (now b2) (now bw)) j sb n m ⌝ ∗ ⌜ Binned setup edges (now «value_edges») table (length (now state)) ⌝ }
+    requires { ⌜ length (now values) ≡ m * n ⌝ ∗ ⌜ length (now found) ≡ m * n ⌝ }
+    ensures { λ _. ⌜ now (state .exit) ≡ planeAdded setup (now («value_edges» .entry)) (fields (now (a0 .entry)) (now (a1 .entry)) (now (a2 .entry)) (now (aw .entry)))
+        (fields (now (b0 .entry)) (now (b1 .entry)) (now (b2 .entry)) (now (bw .entry))) i j sa sb n 0 m (now (state .entry)) ⌝ }
 {
-    gather_row(setup, a0, a1, a2, aw, b0, b1, b2, bw, i, j, n, values);
+    gather_rows(
+        setup,
+        a0,
+        a1,
+        a2,
+        aw,
+        b0,
+        b1,
+        b2,
+        bw,
+        i,
+        j,
+        sa,
+        sb,
+        n,
+        m,
+        values,
+    );
     edge_table::bins_of(false, edges, value_edges, hints, table, values, found);
-    add_weights(aw, bw, i, j, found, state);
+    add_found(aw, bw, i, j, sa, sb, n, m, found, state);
 }
 
-// k rows of n cells, each a stride after the one before: sa in a, sb in b.
+fn rows_at_once(left: usize, most: usize) -> usize
+    requires { ⌜ (0 < left) × (0 < most) ⌝ }
+    ensures { λ r. ⌜ (0 < r) × (r ≤ left) × (r ≤ most) ⌝ }
+{
+    if left < most { left } else { most }
+}
+
+// k rows of n cells, each a stride after the one before: sa in a, sb in b. The room holds `most` rows.
 fn add_plane(
     setup: Setup,
     edges: BuiltEdges,
@@ -214,16 +323,21 @@ fn add_plane(
     sb: usize,
     n: usize,
     k: usize,
+    most: usize,
     values: &mut [f64],
     found: &mut [usize],
     state: &mut [f64],
 )
-    requires { ⌜ PlaneFits (fields (now a0) (now a1) (now a2) (now aw)) i sa n k ⌝ ∗ ⌜ PlaneFits (fields (now b0) (now b1) (now b2) (now bw)) j sb n k ⌝ ∗ ⌜ Binned setup edges (now «value_edges») table (length (now state)) ⌝ ∗ ⌜ RowRoom n (length (now values)) (length (now found)) ⌝ }
+    requires { ⌜ PlaneFits (fields (now a0) (now a1) (now a2) (now aw)) i sa n k ⌝ ∗ ⌜ PlaneFits (fields (now b0) (now b1) (now b2) (now bw)) j sb n k ⌝ ∗ ⌜ Binned setup edges (now «value_edges») table (length (now state)) ⌝ ∗ ⌜ RowsRoom most n (length (now values)) (length (now found)) ⌝ }
     ensures { λ _. ⌜ now (state .exit) ≡ planeAdded setup (now («value_edges» .entry)) (fields (now (a0 .entry)) (now (a1 .entry)) (now (a2 .entry)) (now (aw .entry)))
         (fields (now (b0 .entry)) (now (b1 .entry)) (now (b2 .entry)) (now (bw .entry))) i j sa sb n 0 k (now (state .entry)) ⌝ }
 {
-    for y in 0..k {
-        add_row(
+    let mut y = 0;
+    while y < k {
+        let left = k - y;
+        let m = rows_at_once(left, most);
+        let c = m * n;
+        add_rows(
             setup,
             edges,
             table,
@@ -239,11 +353,15 @@ fn add_plane(
             bw,
             i + y * sa,
             j + y * sb,
+            sa,
+            sb,
             n,
-            values,
-            found,
-            state,
+            m,
+            &mut values[..c],
+            &mut found[..c],
+            &mut *state,
         );
+        y += m;
     }
 }
 
@@ -279,6 +397,7 @@ fn add_planes(
     ensures { λ _. ⌜ now (state .exit) ≡ blockAdded setup (now («value_edges» .entry)) (fields (now (a0 .entry)) (now (a1 .entry)) (now (a2 .entry)) (now (aw .entry)))
         (fields (now (b0 .entry)) (now (b1 .entry)) (now (b2 .entry)) (now (bw .entry))) i j sa sb ta tb n k 0 l (now (state .entry)) ⌝ }
 {
+    let most = values.len() / n;
     for z in 0..l {
         add_plane(
             setup,
@@ -300,6 +419,7 @@ fn add_planes(
             sb,
             n,
             k,
+            most,
             values,
             found,
             state,
@@ -885,8 +1005,8 @@ fn add_histogram(
         n.x,
         n.y,
         n.z,
-        &mut values[..n.x],
-        &mut found[..n.x],
+        values,
+        found,
         state,
     );
     merge_state(setup.n_states, bin, state, scratch);
@@ -1057,8 +1177,8 @@ fn run_histograms(
     };
     let mut hints = [0u8; 4096];
     edge_table::fill_hints(edges, value_edges, table, &mut hints);
-    let mut values = [0.0; 64];
-    let mut found = [0usize; 64];
+    let mut values = [0.0; 256];
+    let mut found = [0usize; 256];
     let mut state = zero_state();
     let used = setup.n_states * state_size;
     let mut scratch = parallel_serial::zeros();

@@ -1,8 +1,6 @@
 use native.Mathlib.Omega.{arith}
-use mathlib.Core.Path.{sym}
-use lib.Seq.{length-take-le}
 use Rattle.twopoint_cartesian.proofs.Cells.{reach-near, placed-a, placed-b, answers-a, answers-b, cells-done}
-use Rattle.twopoint_cartesian.proofs.Rows.{narrow, part-values, part-found, parts-room, binned-cleared}
+use Rattle.twopoint_cartesian.proofs.Rows.{offset-room, binned-cleared}
 use Rattle.twopoint_cartesian.proofs.Merge.{room-sized, state-merged}
 use borrow.Author.Needs.{needs}
 use Rattle.twopoint_cartesian.proofs.add_histogram.Statement.{statement}
@@ -28,20 +26,8 @@ first-of-b-requires c κs = let s = c .before .before .before .before .before .b
 overlap-requires : tie.Need-overlap-requires
 overlap-requires c κs = let s = c .before .before .before .before .before .before .before .before .before .before .before .before .before .before .before .before .before .before .before .before in reach-near _ _ (s .pre .0) (s .pre .1 .0) _ (s .pre .1 .1 .0)
 
-slice-relend-prefix-add-planes : tie.Need-slice-relend-prefix-add-planes
-slice-relend-prefix-add-planes c = let s = c .before .before .before .before .before .before .before .before .before .before .before .before .before .before .before .before .before .before .before .before .before in part-values _ _ _ (s .pre .1 .1 .1 .1 .0) (narrow _ _ (s .pre .0) (s .pre .1 .0) _ (s .pre .1 .1 .0) _ (c .overlap .ensures))
-
-slice-aggregate-add-planes : tie.Need-slice-aggregate-add-planes
-slice-aggregate-add-planes c = let s = c .before .before .before .before .before .before .before .before .before .before .before .before .before .before .before .before .before .before .before .before .before .before in sym (length-take-le _ _ (part-values _ _ _ (s .pre .1 .1 .1 .1 .0) (narrow _ _ (s .pre .0) (s .pre .1 .0) _ (s .pre .1 .1 .0) _ (c .before .overlap .ensures))))
-
-slice-relend-prefix-add-planes-2 : tie.Need-slice-relend-prefix-add-planes-2
-slice-relend-prefix-add-planes-2 c = let s = c .before .before .before .before .before .before .before .before .before .before .before .before .before .before .before .before .before .before .before .before .before .before in part-found _ _ _ (s .pre .1 .1 .1 .1 .0) (narrow _ _ (s .pre .0) (s .pre .1 .0) _ (s .pre .1 .1 .0) _ (c .before .overlap .ensures))
-
-slice-aggregate-add-planes-2 : tie.Need-slice-aggregate-add-planes-2
-slice-aggregate-add-planes-2 c = let s = c .before .before .before .before .before .before .before .before .before .before .before .before .before .before .before .before .before .before .before .before .before .before .before in sym (length-take-le _ _ (part-found _ _ _ (s .pre .1 .1 .1 .1 .0) (narrow _ _ (s .pre .0) (s .pre .1 .0) _ (s .pre .1 .1 .0) _ (c .before .before .overlap .ensures))))
-
 add-planes-requires : tie.Need-add-planes-requires
-add-planes-requires c κs = let s = c .before .before .before .before .before .before .before .before .before .before .before .before .before .before .before .before .before .before .before .before .before .before .before .before in (answers-a _ _ (s .pre .0) (s .pre .1 .0) _ (s .pre .1 .1 .0) _ (c .before .before .before .overlap .ensures) _ (c .before .before .before .before .before .first-of-a .ensures), (answers-b _ _ (s .pre .0) (s .pre .1 .0) _ (s .pre .1 .1 .0) _ (c .before .before .before .overlap .ensures) _ (c .before .before .before .before .first-of-b .ensures), (binned-cleared _ _ _ _ (s .args .state .now) _ (c .before .before .before .before .before .before .before .before .clear .ensures) (s .pre .1 .1 .1 .0), parts-room _ (s .args .values .now) (s .args .found .now) (s .pre .1 .1 .1 .1 .0) (narrow _ _ (s .pre .0) (s .pre .1 .0) _ (s .pre .1 .1 .0) _ (c .before .before .before .overlap .ensures)))))
+add-planes-requires c κs = let s = c .before .before .before .before .before .before .before .before .before .before .before .before .before .before .before .before .before .before .before .before .before .before .before .before in (answers-a _ _ (s .pre .0) (s .pre .1 .0) _ (s .pre .1 .1 .0) _ (c .before .before .before .overlap .ensures) _ (c .before .before .before .before .before .first-of-a .ensures), (answers-b _ _ (s .pre .0) (s .pre .1 .0) _ (s .pre .1 .1 .0) _ (c .before .before .before .overlap .ensures) _ (c .before .before .before .before .first-of-b .ensures), (binned-cleared _ _ _ _ (s .args .state .now) _ (c .before .before .before .before .before .before .before .before .clear .ensures) (s .pre .1 .1 .1 .0), offset-room _ _ (s .pre .0) (s .pre .1 .0) _ (s .pre .1 .1 .0) _ (c .before .before .before .overlap .ensures) _ _ (s .pre .1 .1 .1 .1 .0))))
 
 merge-state-requires : tie.Need-merge-state-requires
 merge-state-requires c κs = let s = c .before .before .before .before .before .before .before .before .before .before .before .before .before .before .before .before .before .before .before .before .before .before .before .before .before .before .before .before .before .before .before .before .before in room-sized _ _ _ _ _ (omega (arith, c .before .before .before .before .before .before .before .before .add-planes .kept, c .before .before .before .before .before .before .before .before .before .before .before .before .before .before .before .before .before .clear .kept)) (s .pre .1 .1 .1 .1 .1)
@@ -69,10 +55,6 @@ add-histogram-spec =
     first-of-a-requires
     first-of-b-requires
     overlap-requires
-    slice-relend-prefix-add-planes
-    slice-aggregate-add-planes
-    slice-relend-prefix-add-planes-2
-    slice-aggregate-add-planes-2
     add-planes-requires
     merge-state-requires
     same-length

@@ -1,6 +1,6 @@
 use borrow.Author.Needs.{needs}
 use mathlib.Core.Path.{_≡_, refl}
-use Prim.Native.Nat.{_≤_, _-_}
+use Prim.Native.Nat.{_≤_, _-_, _+_}
 use native.Mathlib.Omega.{arith}
 use lib.ListN.{length, length-set}
 use Rattle.definitions.specs.Lists.{overwritten}
@@ -19,53 +19,117 @@ Inv-loop setup a0 a1 a2 aw b0 b1 b2 bw i j n values₀ x₀ values x = (x ≤ n)
 abbrev μ-loop : tie.MeasureT-loop
 μ-loop setup a0 a1 a2 aw b0 b1 b2 bw i j n values₀ x₀ values x = n - x
 
--- src/lib.rt:377:5
+-- src/lib.rt:148:5
 loop-holds : tie.Need-loop-holds Inv-loop μ-loop
 loop-holds c = (omega arith, refl, refl)
 
--- src/lib.rt:378:65
+-- src/lib.rt:148:11
+add-loop : tie.Need-add-loop Inv-loop μ-loop
+add-loop c = search needs
+
+-- src/lib.rt:149:17
+add-y : tie.Need-add-y Inv-loop μ-loop
+add-y c = search needs
+
+-- src/lib.rt:150:65
 add-datum-at : tie.Need-add-datum-at Inv-loop μ-loop
 add-datum-at c = search needs
 
--- src/lib.rt:378:72
+-- src/lib.rt:150:72
 add-datum-at-2 : tie.Need-add-datum-at-2 Inv-loop μ-loop
 add-datum-at-2 c = search needs
 
--- src/lib.rt:378:13
+-- src/lib.rt:150:13
 datum-at-requires : tie.Need-datum-at-requires Inv-loop μ-loop
 datum-at-requires c κs = search needs
 
--- src/lib.rt:379:21
+-- src/lib.rt:151:65
+add-datum-at-3 : tie.Need-add-datum-at-3 Inv-loop μ-loop
+add-datum-at-3 c = let s = c .before .before .before .before .before .before .before .before .before .before .before .before in omega (arith, s, s .pre .0, c .before .loop-test .taken)
+
+-- src/lib.rt:151:72
+add-datum-at-4 : tie.Need-add-datum-at-4 Inv-loop μ-loop
+add-datum-at-4 c = let s = c .before .before .before .before .before .before .before .before .before .before .before .before in omega (arith, s, s .pre .1 .0, c .before .loop-test .taken)
+
+-- src/lib.rt:151:13
+datum-at-requires-2 : tie.Need-datum-at-requires-2 Inv-loop μ-loop
+datum-at-requires-2 c κs = search needs
+
+-- src/lib.rt:152:21
 component-sum-requires : tie.Need-component-sum-requires Inv-loop μ-loop
 component-sum-requires c κs = search needs
 
--- src/lib.rt:379:9
+-- src/lib.rt:152:9
 mul-values : tie.Need-mul-values Inv-loop μ-loop
-mul-values c = search needs
+mul-values c = let s = c .before .before .before .before .before .before .before .before .before .before .before .before .before .before in let t = c .before .before .before .before .loop in omega (arith, s .good, s .pre .1 .1, t .inv .1, c .before .before .before .loop-test .taken)
 
--- src/lib.rt:379:9
+-- src/lib.rt:152:9
 slice-write-values : tie.Need-slice-write-values Inv-loop μ-loop
-slice-write-values c = search needs
+slice-write-values c = let s = c .before .before .before .before .before .before .before .before .before .before .before .before .before .before in let t = c .before .before .before .before .loop in omega (arith, s .pre .1 .1, t .inv .1, c .before .before .before .loop-test .taken)
 
--- src/lib.rt:377:9
+-- src/lib.rt:153:21
+component-sum-requires-2 : tie.Need-component-sum-requires-2 Inv-loop μ-loop
+component-sum-requires-2 c κs = search needs
+
+-- src/lib.rt:153:9
+mul-values-2 : tie.Need-mul-values-2 Inv-loop μ-loop
+mul-values-2 c = let s = c .before .before .before .before .before .before .before .before .before .before .before .before .before .before .before in let t = c .before .before .before .before .before .loop in omega (arith, s .good, s .pre .1 .1, t .inv .1, c .before .before .before .before .loop-test .taken)
+
+-- src/lib.rt:153:9
+slice-write-values-2 : tie.Need-slice-write-values-2 Inv-loop μ-loop
+slice-write-values-2 c = let s = c .before .before .before .before .before .before .before .before .before .before .before .before .before .before .before in let t = c .before .before .before .before .before .loop in simp length-set (omega (arith, s .pre .1 .1, t .inv .1, c .before .before .before .before .loop-test .taken))
+
+-- src/lib.rt:154:13
 add-x : tie.Need-add-x Inv-loop μ-loop
-add-x c = search needs
+add-x c = let s = c .before .before .before .before .before .before .before .before .before .before .before .before .before .before .before in omega (arith, s, s .good, c .before .before .before .before .loop-test .taken)
 
--- src/lib.rt:377:5
+-- src/lib.rt:148:5
 loop-less : tie.Need-loop-less Inv-loop μ-loop
 loop-less c = search needs
 
--- src/lib.rt:377:5
+-- src/lib.rt:148:5
 loop-again : tie.Need-loop-again Inv-loop μ-loop
-loop-again c = let s = c .before .before .before .before .before .before .before .before .before .before .before .before .before in let t = c .before .before .before in (omega arith, simp length-set (omega arith), value-turn _ _ _ _ _ (t .loop .x) (s .args .values .now) _ _ (omega (arith, s .pre, t .loop .inv, c .before .before .loop-test .taken)) (c .before .datum-at .ensures) _ (c .component-sum .ensures) (t .loop .inv .2))
+loop-again c = let s = c .before .before .before .before .before .before .before .before .before .before .before .before .before .before .before in let t = c .before .before .before .before .before .loop in (omega arith, simp length-set (omega arith), value-turn _ _ _ _ _ (t .x + 1) (s .args .values .now) _ _ (omega (arith, s .pre, t .inv, c .before .before .before .before .loop-test)) (c .before .before .datum-at2 .ensures) _ (c .component-sum2 .ensures) (value-turn _ _ _ _ _ (t .x) (s .args .values .now) _ _ (omega (arith, s .pre, t .inv, c .before .before .before .before .loop-test)) (c .before .before .before .datum-at .ensures) _ (c .before .component-sum .ensures) (t .inv .2)))
 
--- src/lib.rt:359:1
+-- src/lib.rt:157:65
+add-datum-at-5 : tie.Need-add-datum-at-5 Inv-loop μ-loop
+add-datum-at-5 c = search needs
+
+-- src/lib.rt:157:72
+add-datum-at-6 : tie.Need-add-datum-at-6 Inv-loop μ-loop
+add-datum-at-6 c = search needs
+
+-- src/lib.rt:157:13
+datum-at-requires-3 : tie.Need-datum-at-requires-3 Inv-loop μ-loop
+datum-at-requires-3 c κs = search needs
+
+-- src/lib.rt:158:21
+component-sum-requires-3 : tie.Need-component-sum-requires-3 Inv-loop μ-loop
+component-sum-requires-3 c κs = search needs
+
+-- src/lib.rt:158:9
+mul-values-3 : tie.Need-mul-values-3 Inv-loop μ-loop
+mul-values-3 c = search needs
+
+-- src/lib.rt:158:9
+slice-write-values-3 : tie.Need-slice-write-values-3 Inv-loop μ-loop
+slice-write-values-3 c = search needs
+
+-- src/lib.rt:129:1
 same-length : tie.Need-same-length Inv-loop μ-loop
-same-length c = search needs
+same-length c = simp length-set (omega arith)
 
--- src/lib.rt:359:1
+-- src/lib.rt:129:1
 returns : tie.Need-returns Inv-loop μ-loop
-returns c = search values-done
+returns c = let s = c .before .before .before .before .before .before .before .before .before .before .before .before .before .before in let t = c .before .before .before .before .loop in values-done (s .args .setup) (fields (s .args .a0 .now) (s .args .a1 .now) (s .args .a2 .now) (s .args .aw .now)) (fields (s .args .b0 .now) (s .args .b1 .now) (s .args .b2 .now) (s .args .bw .now)) (s .args .i) (s .args .j) (t .x + 1) (s .args .n) (s .args .values .now) _ (omega arith) (omega arith) (value-turn (s .args .setup) _ _ (s .args .i) (s .args .j) (t .x) (s .args .values .now) _ _ (omega (arith, s .pre, t .inv)) (c .before .datum-at3 .ensures) _ (c .component-sum3 .ensures) (t .inv .2))
+
+-- src/lib.rt:129:1
+same-length-2 : tie.Need-same-length-2 Inv-loop μ-loop
+same-length-2 c = search needs
+
+-- src/lib.rt:129:1
+returns-2 : tie.Need-returns-2 Inv-loop μ-loop
+returns-2 c = search values-done
 
 pub gather-row-spec : {M : Type 1} → statement M
 gather-row-spec =
@@ -74,14 +138,30 @@ gather-row-spec =
     Inv-loop
     μ-loop
     loop-holds
+    add-loop
+    add-y
     add-datum-at
     add-datum-at-2
     datum-at-requires
+    add-datum-at-3
+    add-datum-at-4
+    datum-at-requires-2
     component-sum-requires
     mul-values
     slice-write-values
+    component-sum-requires-2
+    mul-values-2
+    slice-write-values-2
     add-x
     loop-less
     loop-again
+    add-datum-at-5
+    add-datum-at-6
+    datum-at-requires-3
+    component-sum-requires-3
+    mul-values-3
+    slice-write-values-3
     same-length
-    returns)
+    returns
+    same-length-2
+    returns-2)

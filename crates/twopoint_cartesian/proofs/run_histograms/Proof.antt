@@ -3,6 +3,7 @@ use mathlib.Core.Path.{refl, sym, ap, _∙_}
 use lib.ListN.{take}
 use lib.Seq.{length-take-le}
 use Rattle.edge_table.proofs.Lookup.{tabled}
+use Rattle.twopoint_cartesian.proofs.Rows.{room-made}
 use Rattle.twopoint_cartesian.proofs.Walk.{roomy-same}
 use Rattle.twopoint_cartesian.proofs.Runs.{used-fits, used-part, used-lent, back-part, state-part, state-lent, added-filled}
 use borrow.Author.Needs.{needs}
@@ -72,7 +73,7 @@ slice-aggregate-fill-5 c = let s = c .before .before .before .before .before .be
 
 -- src/lib.rt:1093:5
 fill-requires : tie.Need-fill-requires
-fill-requires c κs = let s = c .before .before .before .before .before .before .before .before .before .before .before .before .before .before .before .before .before .before .before .before .before .before .before .before in let f = s .pre .1 .1 .1 .0 in (s .pre .0, (s .pre .1 .0, (s .pre .1 .1 .0, (record { distances = tabled _ _ _ _ (f .distances) (c .before .before .before .before .before .before .before .before .before .before .before .before .table-of .ensures); kind = f .kind; values = tabled _ _ _ _ (f .values) (c .before .before .before .before .before .before .before .before .before .before .before .table-of2 .ensures) }, (roomy-same _ _ _ _ _ _ _ (sym (state-lent _ (s .pre .1 .1 .1 .1 .0 .small) _ (c .before .before .before .before .before .before .before .zero-state .ensures))) (sym (used-lent _ _ (s .pre .1 .1 .1 .1 .1) (c .before .before .before .before .before .zeros .ensures))) (s .pre .1 .1 .1 .1 .0), record { values = refl; found = refl })))))
+fill-requires c κs = let s = c .before .before .before .before .before .before .before .before .before .before .before .before .before .before .before .before .before .before .before .before .before .before .before .before in let f = s .pre .1 .1 .1 .0 in (s .pre .0, (s .pre .1 .0, (s .pre .1 .1 .0, (record { distances = tabled _ _ _ _ (f .distances) (c .before .before .before .before .before .before .before .before .before .before .before .before .table-of .ensures); kind = f .kind; values = tabled _ _ _ _ (f .values) (c .before .before .before .before .before .before .before .before .before .before .before .table-of2 .ensures) }, (roomy-same _ _ _ _ _ _ _ (sym (state-lent _ (s .pre .1 .1 .1 .1 .0 .small) _ (c .before .before .before .before .before .before .before .zero-state .ensures))) (sym (used-lent _ _ (s .pre .1 .1 .1 .1 .1) (c .before .before .before .before .before .zeros .ensures))) (s .pre .1 .1 .1 .1 .0), room-made _ _ refl refl)))))
 
 -- src/lib.rt:1116:34
 array-share-prefix-scratch : tie.Need-array-share-prefix-scratch
