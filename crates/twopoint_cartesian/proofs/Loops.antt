@@ -1,20 +1,13 @@
 -- The cells of an offset, turn by turn: what is left of a loop, run on the state as it is now, gives the loop's result. Assumes nothing.
 use mathlib.Core.Path.{_≡_, refl, sym, ap, _∙_}
-use mathlib.Core.Option.{Option, none, some}
-use mathlib.Core.Bool.{Bool, true, false, cond}
 use mathlib.Core.List.{List}
 use Prim.Native.Nat.{ℕ, zero, suc, _+_, _-_, _*_, _<_, _≤_}
 use native.Mathlib.Nat.{sub-zero, add-zero, zero-add, add-mul}
 use native.Mathlib.Numerals.{add-one}
 use native.Mathlib.Omega.{arith}
-use lib.Dec.{ltb}
-use lib.ListN.{length}
 use lib.Ieee.{Float}
-use Rattle.definitions.specs.Bins.{below}
 use Rattle.laws.proofs.Loops.{loopLeft}
-use Rattle.reducer.specs.declared.BuiltEdges.{BuiltEdges}
 use Rattle.reducer.specs.Consume as consume
-use Rattle.reducer.specs.Consume.{builtBins, builtFind, builtBin}
 use Rattle.twopoint_cartesian.specs.declared.Setup.{Setup}
 use Rattle.twopoint_cartesian.specs.Cells.{Fields, rowAdded, planeAdded, blockAdded}
 
@@ -48,20 +41,6 @@ module _ {S : Type 0} (body : ℕ → S → S) (n : ℕ) (z : S) where
   left-done k s h inv =
       let m : n - k ≡ 0 = omega arith in
       rw m at inv
-
--- ---- a bin past the bins is dropped once
-twice : (n : ℕ) (o : Option ℕ) → below n (below n o) ≡ below n o
-twice n none = refl
-twice n (some i) = go (ltb i n) refl
-  where
-    go : (t : Bool) → ltb i n ≡ t → below n (cond t (some i) none) ≡ cond t (some i) none
-    go true e = rw e
-    go false e = refl
-
-module _ (edges : BuiltEdges) (es : List Float) (x : Float) where
-  pub kept : below (builtBins edges (length es)) (builtBin edges es x) ≡ builtBin edges es x
-  unfolding consume.builtBin
-  kept = twice (builtBins edges (length es)) (builtFind edges es x)
 
 pub row-place : (i y r s : ℕ) → i + (y + r) * s ≡ i + y * s + r * s
 row-place i y r s = omega (arith, add-mul y r s)

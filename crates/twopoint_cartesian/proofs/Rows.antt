@@ -28,7 +28,7 @@ use Rattle.reducer.specs.declared.Reducer.the-variants.{ComponentSumHistogram}
 use Rattle.reducer.specs.Readings.{opOf, theDatum, readingOf}
 use Rattle.reducer.specs.Consume as consume
 use Rattle.reducer.specs.Consume.{builtBins, addIn, reducerSize, consumed}
-use Rattle.reducer.proofs.Placewise.{room, consumed-length}
+use Rattle.reducer.proofs.Placewise.{room, kept-bin, consumed-length}
 use Rattle.edge_table.specs.declared.Table.{Table}
 use Rattle.edge_table.specs.Table.{numberOr, foundOf, numberIn}
 use Rattle.edge_table.proofs.Batch.{found-bins, indexIn, index-number, index-bin}
@@ -37,7 +37,7 @@ use Rattle.idx_3d_offset.specs.Offsets.{Reach}
 use Rattle.twopoint_cartesian.specs.declared.Setup.{Setup}
 use Rattle.twopoint_cartesian.specs.declared.Tables.{Tables}
 use Rattle.twopoint_cartesian.specs.Cells.{Fields, readingIn, datumIn, cellsAdded, rowAdded, rowValue, weightAdded, weightsAdded, rowsWeighted, planeAdded, Gathered, PlaneFits, Binned, RowRoom, RowsRoom, Looked, Roomy, Ready, overlapOf, fresh}
-use Rattle.twopoint_cartesian.proofs.Loops.{left-turn, left-done, row-place, kept}
+use Rattle.twopoint_cartesian.proofs.Loops.{left-turn, left-done, row-place}
 use Rattle.twopoint_cartesian.proofs.Cells.{count-a, count-least}
 
 -- ---- a row's values, turn by turn; d is what a call answered
@@ -105,7 +105,7 @@ unfolding weightAdded consume.consumed consume.consumedAt
 one-weight edges es d s e h =
     ap (λ (k : ℕ). cond (ltb k (length s)) (bump k (d .weight) s) s) (index-number edges es (componentSum d))
     ∙ go (indexIn edges es (componentSum d))
-    ∙ (λ i. addIn ((ap (λ (n : ℕ). below n (indexIn edges es (componentSum d))) e ∙ index-bin edges es (componentSum d) ∙ sym (kept edges es (componentSum d))) i) 1 0 (d .weight) s)
+    ∙ (λ i. addIn ((ap (λ (n : ℕ). below n (indexIn edges es (componentSum d))) e ∙ index-bin edges es (componentSum d) ∙ sym (kept-bin es edges (componentSum d))) i) 1 0 (d .weight) s)
     ∙ sym (rw (room 1 (builtBins edges (length es)) 0 (length s) (omega arith) (omega arith) (omega arith) (omega arith)))
   where
     go : (o : Option ℕ) → cond (ltb (numberOr o) (length s)) (bump (numberOr o) (d .weight) s) s ≡ addIn (below (length s) o) 1 0 (d .weight) s
