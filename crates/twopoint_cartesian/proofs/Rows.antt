@@ -255,7 +255,7 @@ offset-room a b ha hb d r n e v f u =
       found = u .found;
     }
 
-pub room-made : (v f : ℕ) → v ≡ 256 → f ≡ 256 → RowRoom 64 v f
+pub room-made : (v f : ℕ) → v ≡ 64 → f ≡ 64 → RowRoom 64 v f
 room-made v f ev ef = record { least = omega arith; values = omega arith; found = ef ∙ sym ev }
 
 -- as many rows as it holds

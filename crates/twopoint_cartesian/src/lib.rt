@@ -1177,8 +1177,8 @@ fn run_histograms(
     };
     let mut hints = [0u8; 4096];
     edge_table::fill_hints(edges, value_edges, table, &mut hints);
-    let mut values = [0.0; 256];
-    let mut found = [0usize; 256];
+    let mut values = [0.0; 64];
+    let mut found = [0usize; 64];
     let mut state = zero_state();
     let used = setup.n_states * state_size;
     let mut scratch = parallel_serial::zeros();
