@@ -221,6 +221,12 @@ pub fn zeros_512() -> [f64; 512]
     [0.0; 512]
 }
 
+pub fn zeros_64() -> [f64; 64]
+    ensures { λ r. ⌜ r ≡ take 64 zeroPack ⌝ }
+{
+    [0.0; 64]
+}
+
 // Scratch is added to the front of the caller's pack, caller's number first; nothing where it is longer.
 pub fn add_scratch(scratch: &[f64], pack: &mut [f64])
     ensures { λ _. ⌜ now (pack .exit) ≡ addedScratch (now (pack .entry)) (now (scratch .entry)) ⌝ }

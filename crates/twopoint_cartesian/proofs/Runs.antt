@@ -104,10 +104,11 @@ module _ (n : ℕ) (z : List Float) (h : n ≤ 4096) (e : z ≡ zeroPack) where
   pub used-lent : n ≡ length (take n z)
   used-lent = lent-length z n h e
 
-module _ (n : ℕ) (z : List Float) (h : n ≤ 512) (e : z ≡ take 512 zeroPack) where
+-- of a scratch of m
+module _ (n m : ℕ) (z : List Float) (h : n ≤ m) (k : m ≤ 4096) (e : z ≡ take m zeroPack) where
   pub small-part : n ≤ length z
   unfolding drive.zeroPack
-  small-part = omega (arith, ap length e, length-take-le 512 zeroPack (omega (arith, length-replicate 4096 (zeroF false))))
+  small-part = omega (arith, ap length e, length-take-le m zeroPack (omega (arith, length-replicate 4096 (zeroF false))))
 
   pub small-lent : n ≡ length (take n z)
   small-lent = sym (length-take-le n z small-part)
@@ -180,6 +181,11 @@ pub added-filled : (setup : Setup) (list valueEdges : List Float) (width : block
     → take n z ≡ take n zeroPack → t ≡ offsetsAdded setup list valueEdges width a b k l (take n z) → q ≡ addedScratch s (take n (t ++ drop n z)) → q ≡ addedScratch s (offsetsAdded setup list valueEdges width a b size l (take n zeroPack))
 added-filled setup list valueEdges width a b k size l n s z t q ek en ez et h =
     h ∙ (λ i. addedScratch s (take (sym en i) (t ++ drop n z))) ∙ ap (addedScratch s) (take-append-seam t (drop n z) ∙ et) ∙ λ i. addedScratch s (offsetsAdded setup list valueEdges width a b (ek i) l (ez i))
+
+-- the same of a mean, whose scratch was lent whole; t and u are the zeros
+pub from-zeros : (setup : Setup) (list : List Float) (width : blocks.CellWidth) (a b : CartesianBlock) (l : List blocks.Idx3DOffset) (s t u q : List Float) → t ≡ u
+    → q ≡ addedScratch s (offsetsAdded setup list [] width a b 2 l t) → q ≡ addedScratch s (offsetsAdded setup list [] width a b 2 l u)
+from-zeros setup list width a b l s t u q e h = h ∙ λ i. addedScratch s (offsetsAdded setup list [] width a b 2 l (e i))
 
 module _ (r : Run) (width : blocks.CellWidth) (a b : CartesianBlock) (ha : Ready a) (hb : Ready b) where
   scratch-is : (auto : Bool) (p : ℕ) → cond auto a b ≡ b → r .sets ≡ setsFor auto width a b

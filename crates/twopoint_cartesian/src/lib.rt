@@ -899,7 +899,54 @@ fn fill_means(
     }
 }
 
-// A mean's run, in a scratch of its own, added to the caller's pack.
+// A mean's run in the scratch lent, which is then added to the caller's pack.
+fn run_means_in(
+    auto: bool,
+    setup: Setup,
+    list: &[f64],
+    width: CellWidth,
+    a0: &[f64],
+    a1: &[f64],
+    a2: &[f64],
+    aw: &[f64],
+    a: Block,
+    b0: &[f64],
+    b1: &[f64],
+    b2: &[f64],
+    bw: &[f64],
+    b: Block,
+    scratch: &mut [f64],
+    pack: &mut [f64],
+)
+    requires { ⌜ Ready (blockOf a (now a0) (now a1) (now a2) (now aw)) ⌝ ∗ ⌜ Ready (blockOf b (now b0) (now b1) (now b2) (now bw)) ⌝ ∗ ⌜ (auto ≡ true → blockOf a (now a0) (now a1) (now a2) (now aw) ≡ blockOf b (now b0) (now b1) (now b2) (now bw)) ⌝ }
+    requires { ⌜ isMean (setup .reducer) ≡ true ⌝ ∗ ⌜ Usable (setup .edges) (now list) ⌝ ∗ ⌜ Roomy setup (now list) [] 2 (length (now scratch)) ⌝ }
+    ensures { λ _. ⌜ now (pack .exit) ≡ addedScratch (now (pack .entry)) (offsetsAdded setup (now (list .entry)) [] (widthOf width) (blockOf a (now (a0 .entry)) (now (a1 .entry)) (now (a2 .entry)) (now (aw .entry)))
+        (blockOf b (now (b0 .entry)) (now (b1 .entry)) (now (b2 .entry)) (now (bw .entry))) 2 (seqFor auto (axesOf a) (axesOf b)) (now (scratch .entry))) ⌝ }
+{
+    let edges = setup.edges;
+    let distances = edge_table::table_of(edges, list, 0.0);
+    fill_means(
+        auto,
+        setup,
+        distances,
+        list,
+        width,
+        a0,
+        a1,
+        a2,
+        aw,
+        a,
+        b0,
+        b1,
+        b2,
+        bw,
+        b,
+        &mut *scratch,
+    );
+    parallel_serial::add_scratch(&*scratch, pack);
+}
+
+// In a scratch of its own; zeroing a large one takes a good part of a small run.
 fn run_means(
     auto: bool,
     setup: Setup,
@@ -922,14 +969,33 @@ fn run_means(
     ensures { λ _. ⌜ now (pack .exit) ≡ addedScratch (now (pack .entry)) (offsetsAdded setup (now (list .entry)) [] (widthOf width) (blockOf a (now (a0 .entry)) (now (a1 .entry)) (now (a2 .entry)) (now (aw .entry)))
         (blockOf b (now (b0 .entry)) (now (b1 .entry)) (now (b2 .entry)) (now (bw .entry))) 2 (seqFor auto (axesOf a) (axesOf b)) (take (setup .«n_states» * 2) zeroPack)) ⌝ }
 {
-    let edges = setup.edges;
-    let distances = edge_table::table_of(edges, list, 0.0);
     let used = setup.n_states * 2;
+    if used <= 64 {
+        let mut scratch = parallel_serial::zeros_64();
+        run_means_in(
+            auto,
+            setup,
+            list,
+            width,
+            a0,
+            a1,
+            a2,
+            aw,
+            a,
+            b0,
+            b1,
+            b2,
+            bw,
+            b,
+            &mut scratch[..used],
+            pack,
+        );
+        return;
+    }
     let mut scratch = parallel_serial::zeros_512();
-    fill_means(
+    run_means_in(
         auto,
         setup,
-        distances,
         list,
         width,
         a0,
@@ -943,8 +1009,8 @@ fn run_means(
         bw,
         b,
         &mut scratch[..used],
+        pack,
     );
-    parallel_serial::add_scratch(&scratch[..used], pack);
 }
 
 // ---- histograms

@@ -1042,13 +1042,6 @@ fn run_in(
     parallel_serial::add_scratch(scratch, pack);
 }
 
-// Fewer zeros: a small run need not pay for 4,096.
-fn zeros_64() -> [f64; 64]
-    ensures { λ r. ⌜ r ≡ take 64 zeroPack ⌝ }
-{
-    [0.0; 64]
-}
-
 fn run_64(
     auto: bool,
     setup: Setup,
@@ -1076,7 +1069,7 @@ fn run_64(
         (pointsIn (now («a_positions» .entry)) (now («a_values» .entry)) (now («a_weights» .entry)) «a_stride» «a_n»)
         (pointsIn (now («b_positions» .entry)) (now («b_values» .entry)) (now («b_weights» .entry)) «b_stride» «b_n») (take used zeroPack)) ⌝ }
 {
-    let mut scratch = zeros_64();
+    let mut scratch = parallel_serial::zeros_64();
     run_in(
         auto,
         setup,

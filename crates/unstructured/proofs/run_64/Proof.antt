@@ -7,7 +7,7 @@ use Rattle.unstructured.proofs.run_64.Statement.{statement}
 use Rattle.unstructured.proofs.run_64.Tie as tie
 use Rattle.unstructured.proofs.run_64.Reads as reads
 use Rattle.unstructured.proofs.run_64.Lts as lts
-use Rattle.unstructured.proofs.zeros_64.Reads as zeros-64-reads
+use Rattle.parallel_serial.proofs.zeros_64.Reads as zeros-64-reads
 use Rattle.unstructured.proofs.run_in.Reads as run-in-reads
 
 -- src/lib.rt:1020:23
