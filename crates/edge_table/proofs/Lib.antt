@@ -1,6 +1,5 @@
 pub mod Ways
+pub mod Tests
 pub mod Lookup
 pub mod Order
-pub mod Batch
-pub mod Cuts
 pub mod Examples

@@ -9,7 +9,7 @@ use native.Mathlib.Nat.{le-refl, le-of-lt, eq-or-lt-of-le}
 use native.Mathlib.Omega.{arith}
 use lib.Dec.{T, leb, ltb}
 use lib.ListN.{length}
-use lib.Ieee.{Float, binary64, lt, le, isNan, nan, inf, fin, fits}
+use lib.Ieee.{Float, binary64, lt, le, eq, ne, ofBits, isNan, nan, inf, fin, fits}
 use lib.Ieee.Scale.{finite}
 use borrow.Author.Tests.{lt-ltb, le-leb, lt-leb, ltb-true, ltb-false, leb-true}
 use Rattle.definitions.specs.Lists.{at}
@@ -19,7 +19,7 @@ use Rattle.definitions.specs.Bins.{regularIndex, irregularIndex, lastEdge, belo
 use Rattle.definitions.specs.Reducer.{stateKind}
 use Rattle.definitions.specs.Rules.{refusal, rule, edgesCallRules, kindRules, overState, allFinite, increasing}
 use Rattle.floats.specs.Order.{orderKey}
-use Rattle.floats.proofs.Keys.{key-order, key-mono, key-injective, sorted}
+use Rattle.floats.proofs.Keys.{key-order, key-mono, key-equal, key-injective, sorted}
 use Rattle.bins.proofs.Irregular.{halves-at, finite-at}
 use Rattle.reducer.specs.declared.Edges.{Edges}
 use Rattle.reducer.specs.declared.Edges.the-variants as edges
@@ -32,9 +32,9 @@ use Rattle.reducer.specs.declared.Reducer.the-variants.{Comp0Mean, ComponentSum
 use Rattle.reducer.specs.Readings.{edgesOf, kindOf}
 use Rattle.reducer.specs.Consume.{madeEdges, made, builtBin}
 use Rattle.edge_table.specs.declared.Table.{Table}
-use Rattle.edge_table.specs.Table.{tableOf, between, holds, located, locatedBin, outsideOf, edgeBin, tableBin, valueTableOf}
+use Rattle.edge_table.specs.Table.{tableOf, within, holds, located, locatedBin, outsideOf, edgeBin, tableBin, valueTableOf}
 use Rattle.edge_table.specs.Tabled.{Searchable, Usable, EndsOf, Tabled, UsableValues, TabledValues}
-use Rattle.edge_table.proofs.Order.{lt-self, lt-finite, le-lt}
+use Rattle.edge_table.proofs.Order.{lt-self, lt-finite, eq-finite, le-lt}
 
 -- ---- a value outside the ends has no bin
 low-none : (a b c : Bool) (o : Option ℕ) → b ≡ true → none ≡ cond (a || b || c) none o
@@ -101,7 +101,7 @@ pub none-outside : (es : List Float) (x : Float) → outside es x ≡ true → n
 unfolding builtBin irregularIndex
 none-outside es x v = rw v
 
--- ---- a bin strictly between whose edges the value is
+-- ---- a bin whose edges show that it holds the value
 finite-number : (x : Float) → T (finite x) → isNan x ≡ false
 unfolding isNan
 finite-number nan h = absurd h
@@ -114,7 +114,7 @@ key-less x y f g a b h =
     (eq-or-lt-of-le (key-mono x y f g a b (subst T (sym h) tt)))
 
 module _ (es : List Float) (u : Searchable es) (x : Float) (f : fits binary64 x ≡ true) where
-  above-first : (g : ℕ) → g < length es - 1 → orderKey (at es g) < orderKey x → T (finite x) → lt x (at es 0) ≡ false
+  above-first : (g : ℕ) → g < length es - 1 → orderKey (at es g) ≤ orderKey x → T (finite x) → lt x (at es 0) ≡ false
   above-first g w l m = go (lt x (at es 0)) refl
     where
       go : (b : Bool) → lt x (at es 0) ≡ b → b ≡ false
@@ -137,20 +137,36 @@ module _ (es : List Float) (u : Searchable es) (x : Float) (f : fits binary64 x 
           (omega
           (arith, sorted es (u .held) (u .finite) (u .increasing) (g + 1) n (omega arith) (omega arith), key-less (at es n) (at es (g + 1)) (u .held n) (u .held (g + 1)) p q (le-lt (at es n) x (at es (g + 1)) p m q e l)))
 
-  -- strictly between two edges: inside the ends
-  pub between-bin : (g : ℕ) → between es x g ≡ true → some g ≡ builtBin Irregular es x
-  unfolding between
-  between-bin g c =
-      let p = and-true (ltb g (length es - 1)) (lt (at es g) x && lt x (at es (g + 1))) c in
-      let q = and-true (lt (at es g) x) (lt x (at es (g + 1))) (p .1) in
+  -- what the test of the lower edge shows
+  above-lower : (g : ℕ) → g < length es - 1 → (lt (at es g) x || (eq (at es g) x && ne x (ofBits binary64 0))) ≡ true → lt x (at es (g + 1)) ≡ true → T (finite x) × (orderKey (at es g) ≤ orderKey x)
+  above-lower g w c l = go (lt (at es g) x) refl c
+    where
+      a : T (finite (at es g))
+      a = finite-at es g (u .finite) (omega arith)
+
+      t : T (fits binary64 x)
+      t = subst T (sym f) tt
+
+      go : (b : Bool) → lt (at es g) x ≡ b → (b || (eq (at es g) x && ne x (ofBits binary64 0))) ≡ true → T (finite x) × (orderKey (at es g) ≤ orderKey x)
+      go true e k =
+          let m = lt-finite (at es g) x (at es (g + 1)) a (finite-at es (g + 1) (u .finite) (omega arith)) e l in
+          (m, le-of-lt (key-less (at es g) x (u .held g) t a m e))
+      go false e k =
+          let p = and-true (eq (at es g) x) (ne x (ofBits binary64 0)) k in
+          let m = eq-finite (at es g) x a (p .0) in
+          (m, key-equal (at es g) x (u .held g) t a m (p .0) (p .1))
+
+  -- so it is inside the ends
+  pub within-bin : (g : ℕ) → within es x g ≡ true → some g ≡ builtBin Irregular es x
+  unfolding within
+  within-bin g c =
+      let p = and-true (ltb g (length es - 1)) _ c in
+      let q = and-true (lt (at es g) x || (eq (at es g) x && ne x (ofBits binary64 0))) (lt x (at es (g + 1))) (p .1) in
       let w : g < length es - 1 = ltb-true _ _ (p .0) in
-      let a = finite-at es g (u .finite) (omega arith) in
       let b = finite-at es (g + 1) (u .finite) (omega arith) in
-      let m = lt-finite (at es g) x (at es (g + 1)) a b (q .0) (q .1) in
-      let t : T (fits binary64 x) = subst T (sym f) tt in
-      let l = key-less (at es g) x (u .held g) t a m (q .0) in
-      let o : outside es x ≡ false = rw (finite-number x m, above-first g w l m, below-last g w (q .1) m) in
-      enclosed-bin es u x f g w (le-of-lt l) (key-less x (at es (g + 1)) t (u .held (g + 1)) m b (q .1)) o
+      let m = above-lower g w (q .0) (q .1) in
+      let o : outside es x ≡ false = rw (finite-number x (m .0), above-first g w (m .1) (m .0), below-last g w (q .1) (m .0)) in
+      enclosed-bin es u x f g w (m .1) (key-less x (at es (g + 1)) (subst T (sym f) tt) (u .held (g + 1)) (m .0) b (q .1)) o
 
 -- ---- the search by quarters: a number is not outside the ends
 module _ (es : List Float) (u : Searchable es) (x : Float) (f : fits binary64 x ≡ true) (inside : isNan x ≡ false → outside es x ≡ false) where
@@ -164,7 +180,7 @@ module _ (es : List Float) (u : Searchable es) (x : Float) (f : fits binary64 x 
 
   pub located-found : locatedBin es x ≡ builtBin Irregular es x
   unfolding locatedBin
-  located-found = tested (between es x (located es x)) (located es x) _ _ (between-bin es u x f (located es x)) (tested (holds es x (located es x)) (located es x) _ _ (held-bin (located es x)) refl)
+  located-found = tested (within es x (located es x)) (located es x) _ _ (within-bin es u x f (located es x)) (tested (holds es x (located es x)) (located es x) _ _ (held-bin (located es x)) refl)
 
 -- ---- a table's edges
 module _ (es : List Float) (x : Float) (f : fits binary64 x ≡ true) (table : Table) where

@@ -32,6 +32,14 @@ lt-finite (fin s m e) (inf false) nan p q h k = absurd q
 lt-finite (fin s m e) (inf false) (inf t) p q h k = absurd q
 lt-finite (fin s m e) (inf false) (fin t n d) p q h k = absurd (true≢false (sym k))
 
+pub eq-finite : (a x : Float) → T (finite a) → eq a x ≡ true → T (finite x)
+unfolding eq
+eq-finite nan x p h = absurd p
+eq-finite (inf s) x p h = absurd p
+eq-finite (fin s m e) nan p h = absurd (true≢false (sym h))
+eq-finite (fin s m e) (inf t) p h = absurd (true≢false (sym h))
+eq-finite (fin s m e) (fin t n d) p h = tt
+
 -- ±a < ±b, so not ±b ≤ ±a
 below-level : (s t : Bool) (a b : ℕ) → below s a t b ≡ true → (below t b s a || level t b s a) ≡ false
 below-level false false a b h = rw (le-ltb b a (le-of-lt (ltb-true a b h)), ne-eqb b a (λ e. omega (arith, e, ltb-true a b h)))

@@ -1,16 +1,13 @@
 -- Lookups in edges by a table: what the functions return for any hints and table, also ones of other edges.
 use mathlib.Core.Option.{Option, none, some}
-use mathlib.Core.List.{List, map}
+use mathlib.Core.List.{List}
 use mathlib.Core.Bool.{Bool, true, false, cond, not, _&&_, _||_}
-use Prim.Native.Nat.{ℕ, zero, suc, _+_, _-_, _*_, _/_, _%_, _^_, _<_, _≤_}
-use lib.Dec.{leb, ltb, eqb}
+use Prim.Native.Nat.{ℕ, zero, suc, _+_, _-_, _*_, _%_, _^_}
+use lib.Dec.{leb, ltb}
 use lib.ListN.{length, getD, set}
-use lib.IntN.{pos}
-use lib.Ieee.{Float, binary64, add, sub, mul, div, lt, le, isNan, ofInt, ofBits, toBits}
+use lib.Ieee.{Float, binary64, add, sub, mul, div, lt, le, eq, ne, isNan, ofBits, toBits}
 use Rattle.definitions.specs.Lists.{at}
-use Rattle.definitions.specs.Floats.{asUsize}
 use Rattle.floats.specs.Order.{orderKey}
-use Rattle.bins.specs.declared.RegularBinEdges.{RegularBinEdges}
 use Rattle.reducer.specs.declared.BuiltEdges.{BuiltEdges}
 use Rattle.reducer.specs.declared.BuiltEdges.the-variants.{Regular, Irregular}
 use Rattle.reducer.specs.declared.Reducer.{Reducer}
@@ -66,9 +63,9 @@ abbrev pub bit : Bool → ℕ
 bit true = 1
 bit false = 0
 
--- strictly between the edges of bin h
-unfoldable pub between : List Float → Float → ℕ → Bool
-between list x h = ltb h (length list - 1) && (lt (at list h) x && lt x (at list (h + 1)))
+-- between the edges of bin h, or its lower one and no zero: two zeros that compare equal may stand on two sides of an edge
+unfoldable pub within : List Float → Float → ℕ → Bool
+within list x h = ltb h (length list - 1) && ((lt (at list h) x || (eq (at list h) x && ne x (ofBits binary64 0))) && lt x (at list (h + 1)))
 
 -- x is a number, and the keys of bin h's edges enclose its own
 unfoldable pub holds : List Float → Float → ℕ → Bool
@@ -89,7 +86,7 @@ located list x =
 
 -- what the search by quarters finds, tested by the edges, then by the keys; else the plain lookup
 unfoldable pub locatedBin : List Float → Float → Option ℕ
-locatedBin list x = cond (between list x (located list x)) (some (located list x)) (cond (holds list x (located list x)) (some (located list x)) (builtBin Irregular list x))
+locatedBin list x = cond (within list x (located list x)) (some (located list x)) (cond (holds list x (located list x)) (some (located list x)) (builtBin Irregular list x))
 
 unfoldable pub outsideOf : Table → Float → Bool
 outsideOf table x = isNan x || lt x (table .first) || le (table .last) x
@@ -101,76 +98,16 @@ unfoldable pub tableBin : BuiltEdges → List Float → Table → Float → Opti
 tableBin (Regular e) list table x = builtBin (Regular e) list x
 tableBin Irregular list table x = edgeBin list table x
 
--- ---- lookups of many values
--- the bin, or a number past every bin
-abbrev pub numberOr : Option ℕ → ℕ
-numberOr none = 4096
-numberOr (some b) = b
-
--- ---- regular edges: the quotient's whole number
-abbrev pub quotient : RegularBinEdges → Float → Float
-quotient e x = div binary64 (sub binary64 x (e .min)) (e .«bin_size»)
-
--- past an end, unless no value is
-unfoldable pub isPast : Bool → RegularBinEdges → Float → Bool
-isPast inside e x = not inside && (lt x (e .min) || le (e .max) x)
-
--- the quotient without its fraction; a number past every bin where the value is past an end
-unfoldable pub numberFor : Bool → RegularBinEdges → Float → ℕ
-numberFor inside e x = cond (isPast inside e x) 4096 (asUsize (quotient e x))
-
--- a guess of the whole number of q: 2^31 added leaves 21 bits of the fraction, and the bits above them hold the whole number
-unfoldable pub guessOf : Float → ℕ
-guessOf q = toBits binary64 (add binary64 q (ofBits binary64 0x41e0_0000_0000_0000)) / 2097152 % 4096
-
--- h is the whole number of q
-unfoldable pub isSure : Float → ℕ → Bool
-isSure q h = le (ofInt binary64 (pos h)) q && lt q (add binary64 (ofInt binary64 (pos h)) (ofBits binary64 0x3ff0_0000_0000_0000))
-
--- the guess where it is right and the value not past an end, else a mark past every number of bins
-unfoldable pub sureNumber : Bool → RegularBinEdges → Float → ℕ
-sureNumber inside e x = cond (isSure (quotient e x) (guessOf (quotient e x))) (cond (isPast inside e x) (2 ^ 64 - 1) (guessOf (quotient e x))) (2 ^ 64 - 1)
-
--- m is at least each
-abbrev pub AtMost : ℕ → List ℕ → Type 0
-AtMost m l = (i : ℕ) → i < length l → getD l i 0 ≤ m
-
--- ---- irregular edges, by hints
--- the hint at the value's place; where there is none, what the search by quarters finds
-unfoldable pub hintFor : List Float → List ℕ → Table → Float → ℕ
-hintFor list hints table x = cond (ltb (placeOf table x) (length hints)) (getD hints (placeOf table x) 0) (located list x)
-
--- of the guess g, tested by the edges, then by the keys
-unfoldable pub guessedBin : List Float → Table → Float → ℕ → Option ℕ
-guessedBin list table x g = cond (between list x g) (some g) (cond (outsideOf table x) none (cond (holds list x g) (some g) (locatedBin list x)))
-
+-- ---- hints tried
 -- h, or the bin beside it to which the value points
 unfoldable pub nearHint : List Float → Float → ℕ → ℕ
 nearHint list x h = cond (lt x (at list h)) (h - 1) (h + stepUp list x (h + 1) 1)
 
--- the hint or the bin beside it, tested by the edges alone; a mark past every bin where there is no hint or the test fails
-unfoldable pub sureBin : List Float → List ℕ → Table → Float → ℕ
-sureBin list hints table x =
-    let p = placeOf table x in
+-- the hint at place p or the bin beside it, tested by the edges alone; a mark past every bin where there is no hint or the test fails
+unfoldable pub sureAt : List Float → List ℕ → Float → ℕ → ℕ
+sureAt list hints x p =
     let g = nearHint list x (getD hints p 0) in
-    cond (isNan (spot table x) || not (ltb p (length hints)) || not (between list x g)) (2 ^ 64 - 1) g
-
-unfoldable pub hintedBin : List Float → List ℕ → Table → Float → Option ℕ
-hintedBin list hints table x = guessedBin list table x (nearHint list x (hintFor list hints table x))
-
--- a value's number in a batch; of regular edges it may also be an index past the bins
-unfoldable pub batchNumber : Bool → BuiltEdges → List Float → List ℕ → Table → Float → ℕ
-batchNumber inside (Regular e) list hints table x = numberFor inside e x
-batchNumber inside Irregular list hints table x = numberOr (hintedBin list hints table x)
-
--- each value's number; as they were where the lengths differ
-unfoldable pub foundOf : Bool → BuiltEdges → List Float → List ℕ → Table → List Float → List ℕ → List ℕ
-foundOf inside edges list hints table x found = cond (eqb (length found) (length x)) (map (batchNumber inside edges list hints table) x) found
-
--- the same by the edges alone
-abbrev pub numberIn : Bool → BuiltEdges → List Float → Float → ℕ
-numberIn inside (Regular e) list x = numberFor inside e x
-numberIn inside Irregular list x = numberOr (builtBin Irregular list x)
+    cond (ltb p (length hints) && within list x g) g (2 ^ 64 - 1)
 
 -- ---- value edges, which a histogram has
 abbrev pub noTable : Table

@@ -1,16 +1,14 @@
-// Lookups in edges by a table: hints are made once, and each lookup tries a hint's bin, then a search by quarters. A guess is tested, so nothing rests on it.
+// Lookups in edges by a table: of one value by a search by quarters, of many by hints that are made once. A guess is tested, so nothing rests on it.
 use bins::BinIndex;
-use bins::RegularBinEdges;
 use reducer::BuiltEdges;
 use reducer::Reducer;
 ghost use mathlib.Core.Path.{_≡_};
-ghost use mathlib.Core.List.{map};
 ghost use Prim.Native.Nat.{_+_, _-_, _*_, _≤_, _<_};
-ghost use lib.ListN.{length, getD};
+ghost use lib.ListN.{length};
 ghost use Rattle.definitions.specs.Lists.{at};
 ghost use Rattle.floats.specs.Order.{orderKey};
 ghost use Rattle.bins.specs.Answers.{indexOf};
-ghost use Rattle.edge_table.specs.Table.{tableOf, placeOf, edgePlace, endOf, spread, binHinted, hintsOf, hintsFor, outsideOf, edgeBin, tableBin, noTable, valueTableOf, valueHintsFor, numberOr, guessOf, isSure, isPast, numberFor, sureNumber, AtMost, sureBin, between, holds, stepUp, climb, located, locatedBin, hintFor, nearHint, hintedBin, foundOf};
+ghost use Rattle.edge_table.specs.Table.{tableOf, placeOf, edgePlace, endOf, spread, binHinted, hintsOf, hintsFor, outsideOf, edgeBin, tableBin, noTable, valueTableOf, valueHintsFor, within, holds, stepUp, climb, located, locatedBin, nearHint, sureAt};
 
 // Ends of the edges; a value's place of hints is scale times it plus offset.
 pub struct Table {
@@ -67,7 +65,7 @@ pub fn table_of(edges: BuiltEdges, list: &[f64], span: f64) -> Table
 // ---- hints
 
 // With 2^52 in the offset the sum is rounded to a whole number, which the low bits then hold.
-fn place_of(table: Table, value: f64) -> usize
+pub fn place_of(table: Table, value: f64) -> usize
     ensures { λ r. ⌜ (r ≡ placeOf table value) × (r < 4096) ⌝ }
 {
     let x = value * table.scale + table.offset;
@@ -134,8 +132,9 @@ pub fn fill_hints(edges: BuiltEdges, list: &[f64], table: Table, hints: &mut [u8
 
 // ---- lookups
 
-fn is_between(list: &[f64], x: f64, h: usize) -> bool
-    ensures { λ r. ⌜ r ≡ between (now (list .entry)) x h ⌝ }
+// Whether the edges of bin h show that it holds x: between them, or its lower one and no zero, since two zeros that compare equal may stand on two sides of an edge.
+fn is_within(list: &[f64], x: f64, h: usize) -> bool
+    ensures { λ r. ⌜ r ≡ within (now (list .entry)) x h ⌝ }
 {
     let n = reducer::n_bins(BuiltEdges::Irregular, list.len());
     if h >= n {
@@ -143,6 +142,11 @@ fn is_between(list: &[f64], x: f64, h: usize) -> bool
     }
     if list[h] < x {
         return x < list[h + 1];
+    }
+    if list[h] == x {
+        if x != 0.0 {
+            return x < list[h + 1];
+        }
     }
     false
 }
@@ -202,7 +206,7 @@ fn located_bin(list: &[f64], x: f64) -> BinIndex
     ensures { λ r. ⌜ indexOf r ≡ locatedBin (now (list .entry)) x ⌝ }
 {
     let h = locate(list, x);
-    if is_between(list, x, h) {
+    if is_within(list, x, h) {
         return BinIndex::At(h);
     }
     if is_held(list, x, h) {
@@ -244,32 +248,12 @@ pub fn bin_of(edges: BuiltEdges, list: &[f64], table: Table, value: f64) -> BinI
     }
 }
 
-// ---- lookups of many values
-
-fn number_of(bin: BinIndex) -> usize
-    ensures { λ r. ⌜ r ≡ numberOr (indexOf bin) ⌝ }
-{
-    match bin {
-        BinIndex::At(b) => b,
-        BinIndex::None => 4096,
-    }
-}
-
-// The hint at the value's place; few values are not worth a table, and are searched.
-fn hint_for(list: &[f64], hints: &[u8], table: Table, value: f64) -> usize
-    ensures { λ r. ⌜ (r ≡ hintFor (now (list .entry)) (now (hints .entry)) table value) × (r ≤ 255) ⌝ }
-{
-    let q = place_of(table, value);
-    if q < hints.len() {
-        return hints[q] as usize;
-    }
-    locate(list, value)
-}
+// ---- hints tried
 
 // h, or the bin beside it to which the value points.
 fn near_hint(list: &[f64], x: f64, h: usize) -> usize
     requires { ⌜ h ≤ 255 ⌝ }
-    ensures { λ r. ⌜ (r ≡ nearHint (now (list .entry)) x h) × (r ≤ 256) ⌝ }
+    ensures { λ r. ⌜ r ≡ nearHint (now (list .entry)) x h ⌝ }
 {
     let edge = edge_at(list, h);
     if x < edge {
@@ -278,38 +262,15 @@ fn near_hint(list: &[f64], x: f64, h: usize) -> usize
     h + step_up(list, x, h + 1, 1)
 }
 
-// The hint's bin or one beside it, if that holds the value; else a search.
-fn hinted_bin(list: &[f64], hints: &[u8], table: Table, x: f64) -> usize
-    ensures { λ r. ⌜ r ≡ numberOr (hintedBin (now (list .entry)) (now (hints .entry)) table x) ⌝ }
+// The bin of the hint at place p or the one beside it where the edges show that it holds the value, else the largest usize; in most lookups the first way out.
+pub fn sure_at(list: &[f64], hints: &[u8], x: f64, p: usize) -> usize
+    ensures { λ r. ⌜ r ≡ sureAt (now (list .entry)) (now (hints .entry)) x p ⌝ }
 {
-    let h = hint_for(list, hints, table, x);
-    let g = near_hint(list, x, h);
-    if is_between(list, x, g) {
-        return g;
+    if p >= hints.len() {
+        return usize::MAX;
     }
-    if is_outside(table, x) {
-        return 4096;
-    }
-    if is_held(list, x, g) {
-        return g;
-    }
-    number_of(located_bin(list, x))
-}
-
-// The hint's bin or the one beside it where the edges show that it holds the value, else the largest usize; in most lookups the first way out.
-fn sure_bin(list: &[f64], hints: &[u8], table: Table, x: f64) -> usize
-    ensures { λ r. ⌜ r ≡ sureBin (now (list .entry)) (now (hints .entry)) table x ⌝ }
-{
+    let h = hints[p] as usize;
     let n = reducer::n_bins(BuiltEdges::Irregular, list.len());
-    let z = x * table.scale + table.offset;
-    if floats::is_nan(z) {
-        return usize::MAX;
-    }
-    let q = (f64::to_bits(z) % 4096) as usize;
-    if q >= hints.len() {
-        return usize::MAX;
-    }
-    let h = hints[q] as usize;
     if h < n {
         if list[h] < x {
             if x < list[h + 1] {
@@ -318,172 +279,7 @@ fn sure_bin(list: &[f64], hints: &[u8], table: Table, x: f64) -> usize
         }
     }
     let g = near_hint(list, x, h);
-    if is_between(list, x, g) {
-        g
-    } else {
-        usize::MAX
-    }
-}
-
-// No call in the loop, so that all it reads stays in registers. What it returns is at least each number.
-fn sure_bins(list: &[f64], hints: &[u8], table: Table, x: &[f64], found: &mut [usize]) -> usize
-    requires { ⌜ length (now found) ≡ length (now x) ⌝ }
-    ensures { λ r. ⌜ (now (found .exit) ≡ map (sureBin (now (list .entry)) (now (hints .entry)) table) (now (x .entry))) × AtMost r (now (found .exit)) ⌝ }
-{
-    let mut all = 0;
-    let mut q = 0;
-    while q < x.len() {
-        let bin = sure_bin(list, hints, table, x[q]);
-        found[q] = bin;
-        all = all | bin;
-        q += 1;
-    }
-    all
-}
-
-// Searches what no hint has found.
-fn settle_bins(list: &[f64], hints: &[u8], table: Table, x: &[f64], found: &mut [usize])
-    requires { ⌜ length (now found) ≡ length (now x) ⌝ ∗ ⌜ now found ≡ map (sureBin (now list) (now hints) table) (now x) ⌝ }
-    ensures { λ _. ⌜ now (found .exit) ≡ map (λ v. numberOr (hintedBin (now (list .entry)) (now (hints .entry)) table v)) (now (x .entry)) ⌝ }
-{
-    let mut q = 0;
-    while q < x.len() {
-        if found[q] >= 4096 {
-            found[q] = hinted_bin(list, hints, table, x[q]);
-        }
-        q += 1;
-    }
-}
-
-fn hinted_bins(list: &[f64], hints: &[u8], table: Table, x: &[f64], found: &mut [usize])
-    requires { ⌜ length (now found) ≡ length (now x) ⌝ }
-    ensures { λ _. ⌜ now (found .exit) ≡ map (λ v. numberOr (hintedBin (now (list .entry)) (now (hints .entry)) table v)) (now (x .entry)) ⌝ }
-{
-    let all = sure_bins(list, hints, table, x, &mut *found);
-    if all >= 4096 {
-        settle_bins(list, hints, table, x, found);
-    }
-}
-
-// Adding 2^31 leaves 21 bits of the fraction; the bits above them hold the whole number.
-fn guess_of(q: f64) -> usize
-    ensures { λ r. ⌜ (r ≡ guessOf q) × (r < 4096) ⌝ }
-{
-    ((floats::to_bits(q + 2147483648.0) / 2097152) % 4096) as usize
-}
-
-// Whether h is q without its fraction.
-fn is_sure(q: f64, h: usize) -> bool
-    requires { ⌜ h < 4096 ⌝ }
-    ensures { λ r. ⌜ r ≡ isSure q h ⌝ }
-{
-    let f = h as f64;
-    let next = f + 1.0;
-    if f <= q {
-        return q < next;
-    }
-    false
-}
-
-// Past an end, unless it is known that no value is.
-fn is_past(inside: bool, e: RegularBinEdges, x: f64) -> bool
-    ensures { λ r. ⌜ r ≡ isPast inside e x ⌝ }
-{
-    if inside {
-        return false;
-    }
-    if x < e.min {
-        return true;
-    }
-    e.max <= x
-}
-
-// The quotient without its fraction; 4096 past an end.
-fn number_for(inside: bool, e: RegularBinEdges, x: f64) -> usize
-    ensures { λ r. ⌜ r ≡ numberFor inside e x ⌝ }
-{
-    if is_past(inside, e, x) {
-        return 4096;
-    }
-    floats::as_usize((x - e.min) / e.bin_size)
-}
-
-// The same where a guess is right, else the largest usize.
-fn sure_number(inside: bool, e: RegularBinEdges, x: f64) -> usize
-    ensures { λ r. ⌜ r ≡ sureNumber inside e x ⌝ }
-{
-    let q = (x - e.min) / e.bin_size;
-    let h = guess_of(q);
-    if is_sure(q, h) {
-        if is_past(inside, e, x) {
-            return usize::MAX;
-        }
-        return h;
-    }
-    usize::MAX
-}
-
-// A loop of its own, with nothing but arithmetic, goes several values at a time. What it returns is at least each number.
-fn sure_numbers(inside: bool, e: RegularBinEdges, x: &[f64], found: &mut [usize]) -> usize
-    requires { ⌜ length (now found) ≡ length (now x) ⌝ }
-    ensures { λ r. ⌜ (now (found .exit) ≡ map (sureNumber inside e) (now (x .entry))) × AtMost r (now (found .exit)) ⌝ }
-{
-    let mut all = 0;
-    let mut q = 0;
-    while q < x.len() {
-        let number = sure_number(inside, e, x[q]);
-        found[q] = number;
-        all = all | number;
-        q += 1;
-    }
-    all
-}
-
-// Finds what no guess has found.
-fn settle_numbers(inside: bool, e: RegularBinEdges, x: &[f64], found: &mut [usize])
-    requires { ⌜ length (now found) ≡ length (now x) ⌝ ∗ ⌜ now found ≡ map (sureNumber inside e) (now x) ⌝ }
-    ensures { λ _. ⌜ now (found .exit) ≡ map (numberFor inside e) (now (x .entry)) ⌝ }
-{
-    let mut q = 0;
-    while q < x.len() {
-        if found[q] >= 4096 {
-            found[q] = number_for(inside, e, x[q]);
-        }
-        q += 1;
-    }
-}
-
-// The numbers of all values; seldom is one left to settle.
-fn numbers_for(inside: bool, e: RegularBinEdges, x: &[f64], found: &mut [usize])
-    requires { ⌜ length (now found) ≡ length (now x) ⌝ }
-    ensures { λ _. ⌜ now (found .exit) ≡ map (numberFor inside e) (now (x .entry)) ⌝ }
-{
-    let all = sure_numbers(inside, e, x, &mut *found);
-    if all >= 4096 {
-        settle_numbers(inside, e, x, found);
-    }
-}
-
-// The bin of each value, or a number past the bins where there is none. Nothing is done where the lengths differ.
-// inside: no value is past an end of the edges; of regular ones such a value has any number.
-pub fn bins_of(
-    inside: bool,
-    edges: BuiltEdges,
-    list: &[f64],
-    hints: &[u8],
-    table: Table,
-    x: &[f64],
-    found: &mut [usize],
-)
-    ensures { λ _. ⌜ now (found .exit) ≡ foundOf inside edges (now (list .entry)) (now (hints .entry)) table (now (x .entry)) (now (found .entry)) ⌝ }
-{
-    if found.len() != x.len() {
-        return;
-    }
-    match edges {
-        BuiltEdges::Regular(e) => numbers_for(inside, e, x, found),
-        BuiltEdges::Irregular => hinted_bins(list, hints, table, x, found),
-    }
+    if is_within(list, x, g) { g } else { usize::MAX }
 }
 
 // ---- value edges, which a mean has not

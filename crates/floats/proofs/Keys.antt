@@ -1,22 +1,22 @@
 -- Keys compare as `total_cmp`'s numbers do, and follow the order of the numbers.
 use mathlib.Core.Path.{_≡_, refl, sym, ap, subst, _∙_}
 use mathlib.Core.List.{List, [], _∷_}
-use mathlib.Core.Bool.{Bool, true, false, not, cond}
+use mathlib.Core.Bool.{Bool, true, false, not, cond, _&&_, true≢false}
 use Prim.Native.Nat.{ℕ, zero, suc, _+_, _-_, _*_, _/_, _^_, _<_, _≤_, zero-le}
-use native.Mathlib.Nat.{mul-right-comm, mul-le-mul-right, lt-of-le-of-lt, le-refl, le-div-iff-mul-le, le-trans, le-of-eq}
+use native.Mathlib.Nat.{zero-mul, mul-pos, mul-right-comm, mul-le-mul-right, lt-of-le-of-lt, le-refl, le-div-iff-mul-le, le-trans, le-of-eq}
 use native.Mathlib.Omega.{arith}
 use lib.IntN.{ℤ, pos, negsuc}
 use lib.Signed.{mag, leZ}
-use lib.Dec.{T, ltb, leb, ltb→lt}
+use lib.Dec.{T, ltb, leb, eqb, ltb→lt}
 use lib.ListN.{length}
 use lib.Pow.{pow-pos, pow-add}
-use lib.Ieee.{Float, nan, inf, fin, binary64, up, down, size, lt, isNan, ofBits, toBits, fits, neg}
+use lib.Ieee.{Float, nan, inf, fin, binary64, up, down, size, lt, eq, ne, isNan, ofBits, toBits, fits, neg}
 use lib.Ieee.Scale.{finite}
 use lib.Ieee.Digits.{size-lt, size-le, size-reaches}
 use lib.Ieee.Fits.{kept-lt, down-pos, neg-fits, and-l, and-r}
 use lib.Ieee.Nearest.{div-mono}
 use lib.Ieee.Bits.{toBits-lt, ofBits-toBits}
-use borrow.Author.Tests.{le-leb, lt-leb, ltb-true, ltb-false, leb-true, leb-false}
+use borrow.Author.Tests.{le-leb, lt-leb, ltb-true, ltb-false, leb-true, leb-false, eqb-true}
 use Rattle.definitions.specs.Lists.{at}
 use Rattle.definitions.specs.Rules.{allFinite, increasing}
 use Rattle.definitions.specs.Floats.{totalKey, notAfter}
@@ -152,6 +152,39 @@ key-mono (fin s m e) nan p q a b h = absurd b
 key-mono (fin s m e) (inf t) p q a b h = absurd b
 key-mono nan y p q a b h = absurd a
 key-mono (inf t) y p q a b h = absurd a
+
+-- ---- numbers that compare equal, and are no zero
+same-size : (v w : ℕ) (c : Bool) → (eqb v w && c) ≡ true → (v ≡ w) × (c ≡ true)
+same-size v w c = go (eqb v w) c refl
+  where
+    go : (s c : Bool) → eqb v w ≡ s → (s && c) ≡ true → (v ≡ w) × (c ≡ true)
+    go true true e h = (eqb-true v w e, refl)
+    go true false e h = absurd (true≢false (sym h))
+    go false c e h = absurd (true≢false (sym h))
+
+zero-factor : (v c : ℕ) → 0 < c → v * c ≡ 0 → v ≡ 0
+zero-factor zero c l z = refl
+zero-factor (suc v) c l z =
+    let k : 0 < suc v * c = mul-pos (omega arith) l in
+    absurd (omega (arith, k, z))
+
+pub key-equal : (x y : Float) → T (fits binary64 x) → T (fits binary64 y) → T (finite x) → T (finite y) → eq x y ≡ true → ne y (ofBits binary64 0) ≡ true → orderKey x ≤ orderKey y
+unfolding eq ne neg ofBits
+key-equal (fin false m e) (fin false n d) p q a b h k =
+    let u = pattern-mono (units m e) (units n d) (units-mono m e n d (le-of-eq (same-size (m * up e * down d) (n * up d * down e) _ h .0))) in
+    omega (arith, plus-is m e (neg-fits binary64 (fin false m e) p), plus-is n d (neg-fits binary64 (fin false n d) q))
+key-equal (fin false m e) (fin true n d) p q a b h k =
+    let s = same-size (m * up e * down d) (n * up d * down e) _ h in
+    let z : n * up d * down e ≡ 0 = sym (s .0) ∙ eqb-true (m * up e * down d) 0 (s .1) in
+    absurd (true≢false (sym k ∙ rw (zero-factor (n * up d) (down e) (down-pos e) z, zero-mul, zero-mul (down d))))
+key-equal (fin true m e) (fin false n d) p q a b h k = omega (arith, minus-is m e, plus-is n d (neg-fits binary64 (fin false n d) q))
+key-equal (fin true m e) (fin true n d) p q a b h k =
+    let u = pattern-mono (units n d) (units m e) (units-mono n d m e (le-of-eq (sym (same-size (m * up e * down d) (n * up d * down e) _ h .0)))) in
+    omega (arith, minus-is m e, minus-is n d)
+key-equal (fin s m e) nan p q a b h k = absurd b
+key-equal (fin s m e) (inf t) p q a b h k = absurd b
+key-equal nan y p q a b h k = absurd a
+key-equal (inf t) y p q a b h k = absurd a
 
 -- ---- edges that are finite and increasing have keys that do not fall
 abbrev pub Sorted : List Float → Type 0

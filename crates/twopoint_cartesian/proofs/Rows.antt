@@ -30,8 +30,8 @@ use Rattle.reducer.specs.Consume as consume
 use Rattle.reducer.specs.Consume.{builtBins, addIn, reducerSize, consumed}
 use Rattle.reducer.proofs.Placewise.{room, kept-bin, consumed-length}
 use Rattle.edge_table.specs.declared.Table.{Table}
-use Rattle.edge_table.specs.Table.{numberOr, foundOf, numberIn}
-use Rattle.edge_table.proofs.Batch.{found-bins, indexIn, index-number, index-bin}
+use Rattle.edge_batch.specs.Batch.{numberOr, foundOf, numberIn}
+use Rattle.edge_batch.proofs.Batch.{found-bins, indexIn, index-number, index-bin}
 use Rattle.idx_3d_offset.specs.declared.Axes.{Axes}
 use Rattle.idx_3d_offset.specs.Offsets.{Reach}
 use Rattle.twopoint_cartesian.specs.declared.Setup.{Setup}

@@ -291,7 +291,7 @@ fn add_rows(
         m,
         values,
     );
-    edge_table::bins_of(false, edges, value_edges, hints, table, values, found);
+    edge_batch::bins_of(false, edges, value_edges, hints, table, values, found);
     add_found(aw, bw, i, j, sa, sb, n, m, found, state);
 }
 

@@ -33,9 +33,10 @@ use Rattle.reducer.specs.Readings.{opOf, theDatum}
 use Rattle.reducer.specs.Consume.{reducerSize, builtBins, builtBin, hasRoom, addIn, consumedAt, consumed}
 use Rattle.reducer.proofs.Placewise.{kept-bin}
 use Rattle.edge_table.specs.declared.Table.{Table}
-use Rattle.edge_table.specs.Table.{numberOr, foundOf, numberIn, tableBin}
+use Rattle.edge_table.specs.Table.{tableBin}
+use Rattle.edge_batch.specs.Batch.{numberOr, foundOf, numberIn}
 use Rattle.edge_table.specs.Tabled.{EndsOf, Tabled, TabledValues}
-use Rattle.edge_table.proofs.Batch.{found-bins, indexIn, index-number, index-bin, inside-bin}
+use Rattle.edge_batch.proofs.Batch.{found-bins, indexIn, index-number, index-bin, inside-bin}
 use Rattle.edge_table.proofs.Lookup.{bin-low, bin-high, found-bin}
 use Rattle.unstructured.specs.declared.Setup.{Setup}
 use Rattle.unstructured.specs.declared.Pair.{Pair}

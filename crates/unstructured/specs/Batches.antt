@@ -17,7 +17,7 @@ use Rattle.reducer.specs.declared.Reducer as declared
 use Rattle.reducer.specs.declared.Reducer.the-variants.{Comp0Mean, ComponentSumMean, ComponentSumHistogram}
 use Rattle.reducer.specs.Readings.{opOf}
 use Rattle.reducer.specs.Consume.{builtBins, consumedAt}
-use Rattle.edge_table.specs.Table.{numberIn}
+use Rattle.edge_batch.specs.Batch.{numberIn}
 use Rattle.edge_table.specs.Tabled.{Usable, UsableValues, Tabled, TabledValues}
 use Rattle.unstructured.specs.declared.Setup.{Setup}
 use Rattle.unstructured.specs.declared.Tables.{Tables}

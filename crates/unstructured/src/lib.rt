@@ -237,7 +237,7 @@ fn value_bins(
         Reducer::ComponentSumMean => {}
         Reducer::ComponentSumHistogram(edges) => {
             pair_values(op, first, c0, c1, c2, w, m, places, &mut *d);
-            edge_table::bins_of(false, edges, value_edges, hints, table, &*d, &mut *found);
+            edge_batch::bins_of(false, edges, value_edges, hints, table, &*d, &mut *found);
         }
     }
 }
@@ -495,7 +495,7 @@ fn add_places(
     let edges = setup.edges;
     let table = tables.edges;
     let value_table = tables.values;
-    edge_table::bins_of(true, edges, list, hints, table, &*d, &mut *found);
+    edge_batch::bins_of(true, edges, list, hints, table, &*d, &mut *found);
     value_bins(
         setup,
         value_edges,

@@ -1,4 +1,4 @@
-use Rattle.edge_table.proofs.Batch.{climb-is}
+use Rattle.edge_table.proofs.Tests.{climb-is}
 use borrow.Author.Needs.{needs}
 use Rattle.edge_table.proofs.climb_by.Statement.{statement}
 use Rattle.edge_table.proofs.climb_by.Tie as tie

@@ -1,4 +1,4 @@
-use Rattle.edge_table.proofs.Batch.{holds-nan, holds-past, holds-above, holds-is}
+use Rattle.edge_table.proofs.Tests.{holds-nan, holds-past, holds-above, holds-is}
 use borrow.Author.Needs.{needs}
 use Rattle.edge_table.proofs.is_held.Statement.{statement}
 use Rattle.edge_table.proofs.is_held.Tie as tie

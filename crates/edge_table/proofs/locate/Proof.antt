@@ -1,4 +1,4 @@
-use Rattle.edge_table.proofs.Batch.{located-few, located-many}
+use Rattle.edge_table.proofs.Tests.{located-few, located-many}
 use borrow.Author.Needs.{needs}
 use Rattle.edge_table.proofs.locate.Statement.{statement}
 use Rattle.edge_table.proofs.locate.Tie as tie

@@ -1,10 +1,10 @@
-use Rattle.edge_table.proofs.Batch.{located-between, located-held, located-plain}
+use Rattle.edge_table.proofs.Tests.{located-within, located-held, located-plain}
 use borrow.Author.Needs.{needs}
 use Rattle.edge_table.proofs.located_bin.Statement.{statement}
 use Rattle.edge_table.proofs.located_bin.Tie as tie
 use Rattle.edge_table.proofs.located_bin.Reads as reads
 use Rattle.edge_table.proofs.located_bin.Lts as lts
-use Rattle.edge_table.proofs.is_between.Reads as is-between-reads
+use Rattle.edge_table.proofs.is_within.Reads as is-within-reads
 use Rattle.edge_table.proofs.is_held.Reads as is-held-reads
 use Rattle.edge_table.proofs.locate.Reads as locate-reads
 use Rattle.reducer.proofs.bin_of.Reads as bin-of-reads
@@ -14,12 +14,12 @@ locate-requires : tie.Need-locate-requires
 locate-requires c κs = search needs
 
 -- src/lib.rt:205:8
-is-between-requires : tie.Need-is-between-requires
-is-between-requires c κs = search needs
+is-within-requires : tie.Need-is-within-requires
+is-within-requires c κs = search needs
 
 -- src/lib.rt:206:9
 returns : tie.Need-returns
-returns c = search located-between
+returns c = search located-within
 
 -- src/lib.rt:208:8
 is-held-requires : tie.Need-is-held-requires
@@ -42,7 +42,7 @@ located-bin-spec =
     tie.close
     (tie.spec
     locate-requires
-    is-between-requires
+    is-within-requires
     returns
     is-held-requires
     returns-2

@@ -1,5 +1,5 @@
 use native.Mathlib.Omega.{arith}
-use Rattle.edge_table.proofs.Batch.{near-below, near-above}
+use Rattle.edge_table.proofs.Tests.{near-below, near-above}
 use borrow.Author.Needs.{needs}
 use Rattle.edge_table.proofs.near_hint.Statement.{statement}
 use Rattle.edge_table.proofs.near_hint.Tie as tie
@@ -18,11 +18,11 @@ sub-result c = search needs
 
 -- src/lib.rt:277:9
 returns : tie.Need-returns
-returns c = (near-below _ _ _ _ (c .before .before .edge-at .ensures) _ (c .before .if1 .taken) (omega arith), omega arith)
+returns c = near-below _ _ _ _ (c .before .before .edge-at .ensures) _ (c .before .if1 .taken) (omega arith)
 
 -- src/lib.rt:277:9
 returns-2 : tie.Need-returns-2
-returns-2 c = (near-below _ _ _ _ (c .before .before .edge-at .ensures) _ (c .before .if1 .taken) (omega (arith, c .if2 .left)), omega arith)
+returns-2 c = near-below _ _ _ _ (c .before .before .edge-at .ensures) _ (c .before .if1 .taken) (omega (arith, c .if2 .left))
 
 -- src/lib.rt:279:26
 add-step-up : tie.Need-add-step-up
@@ -38,7 +38,7 @@ add-result c = search needs
 
 -- src/lib.rt:271:1
 returns-3 : tie.Need-returns-3
-returns-3 c = (search near-above, omega (arith, c .step-up .ensures .1))
+returns-3 c = search near-above
 
 pub near-hint-spec : {M : Type 1} → statement M
 near-hint-spec =

@@ -1,7 +1,7 @@
 use native.Mathlib.Omega.{arith}
 use lib.Ieee as Ieee
 use Rattle.edge_table.proofs.Ways.{bit-times}
-use Rattle.edge_table.proofs.Batch.{step-is}
+use Rattle.edge_table.proofs.Tests.{step-is}
 use borrow.Author.Needs.{needs}
 use Rattle.edge_table.proofs.step_up.Statement.{statement}
 use Rattle.edge_table.proofs.step_up.Tie as tie

@@ -7,7 +7,7 @@ use Rattle.twopoint_cartesian.proofs.add_rows.Statement.{statement}
 use Rattle.twopoint_cartesian.proofs.add_rows.Tie as tie
 use Rattle.twopoint_cartesian.proofs.add_rows.Reads as reads
 use Rattle.twopoint_cartesian.proofs.add_rows.Lts as lts
-use Rattle.edge_table.proofs.bins_of.Reads as bins-of-reads
+use Rattle.edge_batch.proofs.bins_of.Reads as bins-of-reads
 use Rattle.twopoint_cartesian.proofs.add_found.Reads as add-found-reads
 use Rattle.twopoint_cartesian.proofs.gather_rows.Reads as gather-rows-reads
 

@@ -7,7 +7,7 @@ use Rattle.unstructured.proofs.add_places.Statement.{statement}
 use Rattle.unstructured.proofs.add_places.Tie as tie
 use Rattle.unstructured.proofs.add_places.Reads as reads
 use Rattle.unstructured.proofs.add_places.Lts as lts
-use Rattle.edge_table.proofs.bins_of.Reads as bins-of-reads
+use Rattle.edge_batch.proofs.bins_of.Reads as bins-of-reads
 use Rattle.unstructured.proofs.add_found.Reads as add-found-reads
 use Rattle.unstructured.proofs.value_bins.Reads as value-bins-reads
 

@@ -7,7 +7,7 @@ use Rattle.unstructured.proofs.value_bins.Statement.{statement}
 use Rattle.unstructured.proofs.value_bins.Tie as tie
 use Rattle.unstructured.proofs.value_bins.Reads as reads
 use Rattle.unstructured.proofs.value_bins.Lts as lts
-use Rattle.edge_table.proofs.bins_of.Reads as bins-of-reads
+use Rattle.edge_batch.proofs.bins_of.Reads as bins-of-reads
 use Rattle.unstructured.proofs.pair_values.Reads as pair-values-reads
 
 enum-told : tie.Need-enum-told

@@ -1,0 +1,95 @@
+-- Quotients cut to whole numbers by guesses that are tested.
+use mathlib.Core.Path.{_≡_, refl, subst}
+use mathlib.Core.Bool.{Bool, true, false, cond}
+use Prim.Native.Nat.{ℕ, _-_, _^_, _<_}
+use native.Mathlib.Omega.{arith}
+use lib.Dec.{T}
+use lib.IntN.{pos}
+use lib.Ieee
+use lib.Ieee.{Float, binary64, add, lt, le, ofInt, ofBits, inFloat}
+use Rattle.definitions.specs.Floats.{asUsize}
+use Rattle.laws.proofs.WholeFloats.{Whole, total-add}
+use Rattle.floats.proofs.Floor.{whole-exact, floor-is}
+use Rattle.bins.specs.declared.RegularBinEdges.{RegularBinEdges}
+use Rattle.edge_batch.specs.Batch.{quotient, guessOf, isSure, isPast, numberFor, sureNumber}
+use Rattle.edge_table.proofs.Lookup.{and-true}
+
+-- ---- the test of a guess
+pub small-float : (h : ℕ) → h < 4096 → T (inFloat binary64 (pos h))
+small-float h l = whole-exact h (omega arith)
+
+module _ (q : Float) (h : ℕ) where
+  pub sure-high : le (ofInt binary64 (pos h)) q ≡ false → false ≡ isSure q h
+  unfolding isSure
+  sure-high a = rw a
+
+  pub sure-is : le (ofInt binary64 (pos h)) q ≡ true → lt q (add binary64 (ofInt binary64 (pos h)) (ofBits binary64 0x3ff0_0000_0000_0000)) ≡ isSure q h
+  unfolding isSure
+  sure-is a = rw a
+
+module _ (inside : Bool) (e : RegularBinEdges) (x : Float) where
+  pub past-never : inside ≡ true → false ≡ isPast inside e x
+  unfolding isPast
+  past-never i = rw i
+
+  module _ (i : inside ≡ false) where
+    pub past-low : lt x (e .min) ≡ true → true ≡ isPast inside e x
+    unfolding isPast
+    past-low a = rw (i, a)
+
+    pub past-high : lt x (e .min) ≡ false → le (e .max) x ≡ isPast inside e x
+    unfolding isPast
+    past-high a = rw (i, a)
+
+  -- r is what `is_past` answered
+  module _ (r : Bool) (er : r ≡ isPast inside e x) where
+    pub number-past : r ≡ true → 4096 ≡ numberFor inside e x
+    unfolding numberFor
+    number-past t = rw (← er, t)
+
+    pub number-whole : (n : ℕ) → r ≡ false → n ≡ asUsize (quotient e x) → n ≡ numberFor inside e x
+    unfolding numberFor
+    number-whole n t k = rw (← er, t) k
+
+  -- h is the guess, s what its test answered
+  module _ (h : ℕ) (eh : h ≡ guessOf (quotient e x)) (s : Bool) (es : s ≡ isSure (quotient e x) h) where
+    pub sure-not : s ≡ false → 2 ^ 64 - 1 ≡ sureNumber inside e x
+    unfolding sureNumber
+    sure-not t = rw (← eh, ← es, t)
+
+    module _ (t : s ≡ true) (r : Bool) (er : r ≡ isPast inside e x) where
+      pub sure-number : r ≡ false → h ≡ sureNumber inside e x
+      unfolding sureNumber
+      sure-number u = rw (← eh, ← es, t, ← er, u)
+
+      pub sure-past : r ≡ true → 2 ^ 64 - 1 ≡ sureNumber inside e x
+      unfolding sureNumber
+      sure-past u = rw (← eh, ← es, t, ← er, u)
+
+-- ---- a tested guess is the number
+one : Whole (ofBits binary64 0x3ff0_0000_0000_0000) (pos 1)
+unfolding ofBits Ieee.fits
+one = record { sign = false; size = 1; fit = tt; val = (refl, refl); is = refl }
+
+guess-small : (q : Float) → guessOf q < 4096
+unfolding guessOf
+guess-small q = omega arith
+
+sure-whole : (q : Float) (h : ℕ) → h < 4096 → isSure q h ≡ true → h ≡ asUsize q
+unfolding isSure
+sure-whole q h l t =
+    let k = and-true (le (ofInt binary64 (pos h)) q) (lt q (add binary64 (ofInt binary64 (pos h)) (ofBits binary64 0x3ff0_0000_0000_0000))) t in
+    floor-is q h l (k .0) (subst (λ (y : Float). lt q y ≡ true) (total-add (pos h) (omega arith) one (omega arith)) (k .1))
+
+module _ (inside : Bool) (e : RegularBinEdges) where
+  pub sure-within : (x : Float) → sureNumber inside e x < 4096 → sureNumber inside e x ≡ numberFor inside e x
+  unfolding sureNumber numberFor
+  sure-within x l = go (isSure q (guessOf q)) (isPast inside e x) refl l
+    where
+      q : Float
+      q = quotient e x
+
+      go : (s p : Bool) → isSure q (guessOf q) ≡ s → cond s (cond p (2 ^ 64 - 1) (guessOf q)) (2 ^ 64 - 1) < 4096 → cond s (cond p (2 ^ 64 - 1) (guessOf q)) (2 ^ 64 - 1) ≡ cond p 4096 (asUsize q)
+      go false p t k = absurd (omega (arith, k))
+      go true true t k = absurd (omega (arith, k))
+      go true false t k = sure-whole q (guessOf q) (guess-small q) t

@@ -1,0 +1,4 @@
+pub mod Loops
+pub mod Cuts
+pub mod Batch
+pub mod Examples
