@@ -1,13 +1,14 @@
 -- What a batch's lookup leaves, and the edges' own bins.
 use mathlib.Core.Path.{_≡_, refl, sym, ap, subst, _∙_}
 use mathlib.Core.Option.{Option, none, some}
-use mathlib.Core.Bool.{Bool, true, false, cond, _&&_, _||_}
+use mathlib.Core.Bool.{Bool, true, false, cond, not, _&&_, _||_}
 use mathlib.Core.List.{List, [], _∷_, map}
-use Prim.Native.Nat.{ℕ, suc, _-_, _^_, _<_, _≤_}
+use Prim.Native.Nat.{ℕ, suc, _-_, _%_, _^_, _<_, _≤_}
+use native.Mathlib.Nat.{le-trans}
 use native.Mathlib.Omega.{arith}
-use lib.Dec.{ltb, T}
+use lib.Dec.{ltb, eqb, T}
 use lib.ListN.{length, getD, length-map}
-use lib.Ieee.{Float, lt, le, binary64, fits}
+use lib.Ieee.{Float, lt, le, isNan, binary64, add, mul, toBits, fits}
 use lib.Ieee.Bits.{is-true}
 use borrow.Author.Tests.{lt-ltb, le-ltb, ltb-true, eq-eqb, ne-eqb}
 use Rattle.definitions.specs.Lists.{at}
@@ -21,9 +22,10 @@ use Rattle.reducer.specs.Consume as consume
 use Rattle.reducer.specs.Consume.{builtBins, builtFind, builtBin}
 use Rattle.reducer.proofs.Placewise.{below-again}
 use Rattle.edge_table.specs.declared.Table.{Table}
-use Rattle.edge_table.specs.Table.{placeOf, nearHint, within, sureAt, tableBin}
+use Rattle.edge_table.specs.Table.{endOf, placeOf, nearHint, enclosed, nonzero, outsideOf, sureAt, tableBin}
 use Rattle.edge_table.specs.Tabled.{Tabled}
-use Rattle.edge_table.proofs.Lookup.{and-true, within-bin, found-bin}
+use Rattle.edge_table.proofs.Ways.{end-le}
+use Rattle.edge_table.proofs.Lookup.{and-true, outside, enclosed-bin, found-bin, none-outside}
 use Rattle.edge_batch.specs.Batch.{numberOr, quotient, isPast, numberFor, sureNumber, AtMost, each, sure, settled, settledOr, batchNumber, foundOf, numberIn}
 use Rattle.edge_batch.proofs.Loops.{each-map}
 use Rattle.edge_batch.proofs.Cuts.{sure-within}
@@ -34,8 +36,8 @@ module _ (inside : Bool) (edges : BuiltEdges) (list : List Float) (hints : List 
   sure-regular e l t p = p ∙ (λ i. map (sure inside (sym t i) list hints table) x)
 
   -- places is what the places' loop left
-  pub sure-irregular : (places l : List ℕ) → edges ≡ Irregular → places ≡ map (placeOf table) x → l ≡ each (sureAt list hints) x places → l ≡ map (sure inside edges list hints table) x
-  sure-irregular places l t p q = q ∙ ap (each (sureAt list hints) x) p ∙ each-map (sureAt list hints) (placeOf table) x ∙ (λ i. map (sure inside (sym t i) list hints table) x)
+  pub sure-irregular : (places l : List ℕ) → edges ≡ Irregular → places ≡ map (placeOf inside table) x → l ≡ each (sureAt list hints) x places → l ≡ map (sure inside edges list hints table) x
+  sure-irregular places l t p q = q ∙ ap (each (sureAt list hints) x) p ∙ each-map (sureAt list hints) (placeOf inside table) x ∙ (λ i. map (sure inside (sym t i) list hints table) x)
 
 -- ---- the second
 module _ (inside : Bool) (edges : BuiltEdges) (list : List Float) (table : Table) (x : Float) where
@@ -47,13 +49,13 @@ module _ (inside : Bool) (edges : BuiltEdges) (list : List Float) (table : Table
   settled-irregular o n t p q = q ∙ ap numberOr (p ∙ (λ i. tableBin (t i) list table x)) ∙ (λ i. settled inside (sym t i) list table x)
 
   module _ (n : ℕ) where
-    pub settled-marked : (v : ℕ) → 4096 ≤ n → v ≡ settled inside edges list table x → v ≡ settledOr inside edges list table x n
+    pub settled-marked : (v : ℕ) → 8192 ≤ n → v ≡ settled inside edges list table x → v ≡ settledOr inside edges list table x n
     unfolding settledOr
-    settled-marked v h p = rw (le-ltb n 4096 h) p
+    settled-marked v h p = rw (le-ltb n 8192 h) p
 
-    pub settled-kept : n < 4096 → n ≡ settledOr inside edges list table x n
+    pub settled-kept : n < 8192 → n ≡ settledOr inside edges list table x n
     unfolding settledOr
-    settled-kept h = rw (lt-ltb n 4096 h)
+    settled-kept h = rw (lt-ltb n 8192 h)
 
 -- ---- a batch
 module _ (inside : Bool) (edges : BuiltEdges) (list : List Float) (hints : List ℕ) (table : Table) (x : List Float) (found : List ℕ) where
@@ -71,44 +73,70 @@ module _ (inside : Bool) (edges : BuiltEdges) (list : List Float) (hints : List 
       pub found-settled : (l : List ℕ) → l ≡ each (settledOr inside edges list table) x first → l ≡ foundOf inside edges list hints table x found
       found-settled l p = p ∙ ap (each (settledOr inside edges list table) x) s ∙ each-map (settledOr inside edges list table) (sure inside edges list hints table) x ∙ sym found-map
 
-      all-kept : (y : List Float) → ((i : ℕ) → i < length y → getD (map (sure inside edges list hints table) y) i 0 < 4096) → map (sure inside edges list hints table) y ≡ map (batchNumber inside edges list hints table) y
+      all-kept : (y : List Float) → ((i : ℕ) → i < length y → getD (map (sure inside edges list hints table) y) i 0 < 8192) → map (sure inside edges list hints table) y ≡ map (batchNumber inside edges list hints table) y
       all-kept [] k = refl
       all-kept (v ∷ y) k = λ i. settled-kept inside edges list table v (sure inside edges list hints table v) (k 0 (omega arith)) i ∷ all-kept y (λ j l. k (suc j) (omega arith)) i
 
       -- nothing is marked
-      pub found-sure : (m : ℕ) → AtMost m first → m < 4096 → first ≡ foundOf inside edges list hints table x found
+      pub found-sure : (m : ℕ) → AtMost m first → m < 8192 → first ≡ foundOf inside edges list hints table x found
       found-sure m a k =
           s ∙ all-kept x (λ i w.
           let n : i < length first = omega (arith, w, ap length s, length-map x (sure inside edges list hints table)) in
-          subst (λ (y : List ℕ). getD y i 0 < 4096) s (omega (arith, a i n, k))) ∙ sym found-map
+          subst (λ (y : List ℕ). getD y i 0 < 8192) s (omega (arith, a i n, k))) ∙ sym found-map
 
 -- ---- the edges' own bins
 module _ (es : List Float) (hints : List ℕ) (table : Table) where
-  -- a number that is no mark was tested
-  sure-found : (x : Float) (p : ℕ) → Tabled Irregular es table → fits binary64 x ≡ true → sureAt es hints x p < 4096 → some (sureAt es hints x p) ≡ builtBin Irregular es x
-  unfolding sureAt
-  sure-found x p t f l = go (nearHint es x (getD hints p 0)) (ltb p (length hints)) l
-    where
-      go : (g : ℕ) (b : Bool) → cond (b && within es x g) g (2 ^ 64 - 1) < 4096 → some (cond (b && within es x g) g (2 ^ 64 - 1)) ≡ builtBin Irregular es x
-      go g false k = absurd (omega (arith, k))
-      go g true k = pick (within es x g) refl k
+  module _ (x : Float) where
+    -- what is no place
+    unplaced : (p : ℕ) → 4096 ≤ p → sureAt es hints x p ≡ cond (eqb p 4096) 4096 (2 ^ 64 - 1)
+    unfolding sureAt
+    unplaced p h = rw (le-ltb p (endOf 4096 (length hints)) (le-trans (end-le 4096 (length hints)) h))
+
+    module _ (t : Tabled Irregular es table) (f : fits binary64 x ≡ true) where
+      -- a hint that is no mark was tested
+      tried : (p : ℕ) → nonzero x ≡ true → p < 4096 → sureAt es hints x p < 8192 → sureAt es hints x p ≡ numberOr (builtBin Irregular es x)
+      unfolding sureAt
+      tried p z h = go (ltb p (endOf 4096 (length hints))) (enclosed es x (nearHint es x (getD hints p 0))) refl
         where
-          pick : (s : Bool) → within es x g ≡ s → cond s g (2 ^ 64 - 1) < 4096 → some (cond s g (2 ^ 64 - 1)) ≡ builtBin Irregular es x
-          pick false u m = absurd (omega (arith, m))
-          pick true u m = within-bin es (t .usable) x f g u
+          g : ℕ
+          g = nearHint es x (getD hints p 0)
+
+          go : (b s : Bool) → enclosed es x g ≡ s → cond b (cond s g (2 ^ 64 - 1)) (cond (eqb p 4096) 4096 (2 ^ 64 - 1)) < 8192
+              → cond b (cond s g (2 ^ 64 - 1)) (cond (eqb p 4096) 4096 (2 ^ 64 - 1)) ≡ numberOr (builtBin Irregular es x)
+          go true true e l = ap numberOr (enclosed-bin es (t .usable) x f g z e)
+          go true false e l = absurd (omega (arith, l))
+          go false s e l =
+              let n : eqb p 4096 ≡ false = ne-eqb p 4096 (λ w. omega (arith, w, h)) in
+              absurd (omega (arith, subst (λ (b : Bool). cond b 4096 (2 ^ 64 - 1) < 8192) n l))
+
+      -- outside the ends, a zero, or tried
+      sure-found : (inside : Bool) → sureAt es hints x (placeOf inside table x) < 8192 → sureAt es hints x (placeOf inside table x) ≡ numberOr (builtBin Irregular es x)
+      unfolding placeOf outsideOf
+      sure-found inside = go (not inside && outsideOf table x) (nonzero x) refl refl
+        where
+          place : ℕ
+          place = toBits binary64 (add binary64 (mul binary64 x (table .scale)) (table .offset)) % 4096
+
+          go : (o z : Bool) → (not inside && outsideOf table x) ≡ o → nonzero x ≡ z → sureAt es hints x (cond o 4096 (cond z place (2 ^ 64 - 1))) < 8192
+              → sureAt es hints x (cond o 4096 (cond z place (2 ^ 64 - 1))) ≡ numberOr (builtBin Irregular es x)
+          go true z i k l =
+              let o : outside es x ≡ true = sym (λ j. isNan x || lt x (t .ends .0 j) || le (t .ends .1 j) x) ∙ and-true (not inside) (outsideOf table x) i .1 in
+              unplaced 4096 (omega arith) ∙ ap numberOr (none-outside es x o)
+          go false true i k l = tried place k (omega arith) l
+          go false false i k l = absurd (omega (arith, l, unplaced (2 ^ 64 - 1) (omega arith)))
 
   module _ (inside : Bool) (edges : BuiltEdges) (t : Tabled edges es table) where
     batch-number : (x : Float) → fits binary64 x ≡ true → batchNumber inside edges es hints table x ≡ numberIn inside edges es x
     unfolding settledOr
     batch-number x f = go edges t
       where
-        pick : (n : ℕ) (r m : ℕ) (b : Bool) → ltb n 4096 ≡ b → (n < 4096 → n ≡ m) → r ≡ m → cond b n r ≡ m
-        pick n r m true e h k = h (ltb-true n 4096 e)
+        pick : (n : ℕ) (r m : ℕ) (b : Bool) → ltb n 8192 ≡ b → (n < 8192 → n ≡ m) → r ≡ m → cond b n r ≡ m
+        pick n r m true e h k = h (ltb-true n 8192 e)
         pick n r m false e h k = k
 
         go : (d : BuiltEdges) → Tabled d es table → batchNumber inside d es hints table x ≡ numberIn inside d es x
         go (Regular e) u = pick (sureNumber inside e x) _ _ _ refl (sure-within inside e x) refl
-        go Irregular u = pick (sureAt es hints x (placeOf table x)) _ _ _ refl (λ l. ap numberOr (sure-found x (placeOf table x) u f l)) (ap numberOr (found-bin Irregular es table x _ refl u f))
+        go Irregular u = pick (sureAt es hints x (placeOf inside table x)) _ _ _ refl (sure-found x u f inside) (ap numberOr (found-bin Irregular es table x _ refl u f))
 
     batch-map : (x : List Float) → ((i : ℕ) → T (fits binary64 (at x i))) → map (batchNumber inside edges es hints table) x ≡ map (numberIn inside edges es) x
     batch-map [] f = refl

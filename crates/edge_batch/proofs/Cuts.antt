@@ -51,20 +51,19 @@ module _ (inside : Bool) (e : RegularBinEdges) (x : Float) where
     unfolding numberFor
     number-whole n t k = rw (← er, t) k
 
-  -- h is the guess, s what its test answered
-  module _ (h : ℕ) (eh : h ≡ guessOf (quotient e x)) (s : Bool) (es : s ≡ isSure (quotient e x) h) where
-    pub sure-not : s ≡ false → 2 ^ 64 - 1 ≡ sureNumber inside e x
+    pub sure-past : r ≡ true → 4096 ≡ sureNumber inside e x
     unfolding sureNumber
-    sure-not t = rw (← eh, ← es, t)
+    sure-past t = rw (← er, t)
 
-    module _ (t : s ≡ true) (r : Bool) (er : r ≡ isPast inside e x) where
-      pub sure-number : r ≡ false → h ≡ sureNumber inside e x
+    -- h is the guess, s what its test answered
+    module _ (t : r ≡ false) (h : ℕ) (eh : h ≡ guessOf (quotient e x)) (s : Bool) (es : s ≡ isSure (quotient e x) h) where
+      pub sure-number : s ≡ true → h ≡ sureNumber inside e x
       unfolding sureNumber
-      sure-number u = rw (← eh, ← es, t, ← er, u)
+      sure-number u = rw (← er, t, ← eh, ← es, u)
 
-      pub sure-past : r ≡ true → 2 ^ 64 - 1 ≡ sureNumber inside e x
+      pub sure-not : s ≡ false → 2 ^ 64 - 1 ≡ sureNumber inside e x
       unfolding sureNumber
-      sure-past u = rw (← eh, ← es, t, ← er, u)
+      sure-not u = rw (← er, t, ← eh, ← es, u)
 
 -- ---- a tested guess is the number
 one : Whole (ofBits binary64 0x3ff0_0000_0000_0000) (pos 1)
@@ -82,14 +81,14 @@ sure-whole q h l t =
     floor-is q h l (k .0) (subst (λ (y : Float). lt q y ≡ true) (total-add (pos h) (omega arith) one (omega arith)) (k .1))
 
 module _ (inside : Bool) (e : RegularBinEdges) where
-  pub sure-within : (x : Float) → sureNumber inside e x < 4096 → sureNumber inside e x ≡ numberFor inside e x
+  pub sure-within : (x : Float) → sureNumber inside e x < 8192 → sureNumber inside e x ≡ numberFor inside e x
   unfolding sureNumber numberFor
-  sure-within x l = go (isSure q (guessOf q)) (isPast inside e x) refl l
+  sure-within x l = go (isPast inside e x) (isSure q (guessOf q)) refl l
     where
       q : Float
       q = quotient e x
 
-      go : (s p : Bool) → isSure q (guessOf q) ≡ s → cond s (cond p (2 ^ 64 - 1) (guessOf q)) (2 ^ 64 - 1) < 4096 → cond s (cond p (2 ^ 64 - 1) (guessOf q)) (2 ^ 64 - 1) ≡ cond p 4096 (asUsize q)
-      go false p t k = absurd (omega (arith, k))
-      go true true t k = absurd (omega (arith, k))
-      go true false t k = sure-whole q (guessOf q) (guess-small q) t
+      go : (p s : Bool) → isSure q (guessOf q) ≡ s → cond p 4096 (cond s (guessOf q) (2 ^ 64 - 1)) < 8192 → cond p 4096 (cond s (guessOf q) (2 ^ 64 - 1)) ≡ cond p 4096 (asUsize q)
+      go true s t k = refl
+      go false true t k = sure-whole q (guessOf q) (guess-small q) t
+      go false false t k = absurd (omega (arith, k))

@@ -40,9 +40,9 @@ guessOf q = toBits binary64 (add binary64 q (ofBits binary64 0x41e0_0000_0000_00
 unfoldable pub isSure : Float → ℕ → Bool
 isSure q h = le (ofInt binary64 (pos h)) q && lt q (add binary64 (ofInt binary64 (pos h)) (ofBits binary64 0x3ff0_0000_0000_0000))
 
--- the guess where it is right and the value not past an end, else a mark past every number of bins
+-- the same where the guess is right, else a mark past every number
 unfoldable pub sureNumber : Bool → RegularBinEdges → Float → ℕ
-sureNumber inside e x = cond (isSure (quotient e x) (guessOf (quotient e x))) (cond (isPast inside e x) (2 ^ 64 - 1) (guessOf (quotient e x))) (2 ^ 64 - 1)
+sureNumber inside e x = cond (isPast inside e x) 4096 (cond (isSure (quotient e x) (guessOf (quotient e x))) (guessOf (quotient e x)) (2 ^ 64 - 1))
 
 -- m is at least each
 abbrev pub AtMost : ℕ → List ℕ → Type 0
@@ -55,10 +55,10 @@ each f [] l = l
 each f (v ∷ x) [] = []
 each f (v ∷ x) (n ∷ l) = f v n ∷ each f x l
 
--- a value's number where a guess or a hint is shown right, else a mark past every number of bins
+-- a value's number where a guess or a hint is shown right, else a mark past every number
 abbrev pub sure : Bool → BuiltEdges → List Float → List ℕ → Table → Float → ℕ
 sure inside (Regular e) list hints table x = sureNumber inside e x
-sure inside Irregular list hints table x = sureAt list hints x (placeOf table x)
+sure inside Irregular list hints table x = sureAt list hints x (placeOf inside table x)
 
 -- a value's number by the edges alone; of regular edges it may also be an index past the bins
 abbrev pub settled : Bool → BuiltEdges → List Float → Table → Float → ℕ
@@ -67,7 +67,7 @@ settled inside Irregular list table x = numberOr (tableBin Irregular list table 
 
 -- n where it is no mark
 unfoldable pub settledOr : Bool → BuiltEdges → List Float → Table → Float → ℕ → ℕ
-settledOr inside edges list table x n = cond (ltb n 4096) n (settled inside edges list table x)
+settledOr inside edges list table x n = cond (ltb n 8192) n (settled inside edges list table x)
 
 abbrev pub batchNumber : Bool → BuiltEdges → List Float → List ℕ → Table → Float → ℕ
 batchNumber inside edges list hints table x = settledOr inside edges list table x (sure inside edges list hints table x)

@@ -23,13 +23,13 @@ fn number_of(bin: BinIndex) -> usize
 // ---- irregular edges, by hints
 
 // The values' places of hints: a loop of its own, with nothing but arithmetic, goes several values at a time.
-fn places_of(table: Table, x: &[f64], found: &mut [usize])
+fn places_of(inside: bool, table: Table, x: &[f64], found: &mut [usize])
     requires { ⌜ length (now found) ≡ length (now x) ⌝ }
-    ensures { λ _. ⌜ now (found .exit) ≡ map (placeOf table) (now (x .entry)) ⌝ }
+    ensures { λ _. ⌜ now (found .exit) ≡ map (placeOf inside table) (now (x .entry)) ⌝ }
 {
     let mut q = 0;
     while q < x.len() {
-        found[q] = edge_table::place_of(table, x[q]);
+        found[q] = edge_table::place_of(inside, table, x[q]);
         q += 1;
     }
 }
@@ -99,15 +99,12 @@ fn number_for(inside: bool, e: RegularBinEdges, x: f64) -> usize
 fn sure_number(inside: bool, e: RegularBinEdges, x: f64) -> usize
     ensures { λ r. ⌜ r ≡ sureNumber inside e x ⌝ }
 {
+    if is_past(inside, e, x) {
+        return 4096;
+    }
     let q = (x - e.min) / e.bin_size;
     let h = guess_of(q);
-    if is_sure(q, h) {
-        if is_past(inside, e, x) {
-            return usize::MAX;
-        }
-        return h;
-    }
-    usize::MAX
+    if is_sure(q, h) { h } else { usize::MAX }
 }
 
 // A loop of its own, with nothing but arithmetic, goes several values at a time. What it returns is at least each number.
@@ -144,7 +141,7 @@ fn sure_of(
     match edges {
         BuiltEdges::Regular(e) => sure_numbers(inside, e, x, found),
         BuiltEdges::Irregular => {
-            places_of(table, x, &mut *found);
+            places_of(inside, table, x, &mut *found);
             sure_bins(list, hints, x, found)
         }
     }
@@ -174,7 +171,7 @@ fn settle(
 {
     let mut q = 0;
     while q < x.len() {
-        if found[q] >= 4096 {
+        if found[q] >= 8192 {
             found[q] = settled_number(inside, edges, list, table, x[q]);
         }
         q += 1;
@@ -198,7 +195,7 @@ pub fn bins_of(
         return;
     }
     let all = sure_of(inside, edges, list, hints, table, x, &mut *found);
-    if all >= 4096 {
+    if all >= 8192 {
         settle(inside, edges, list, table, x, found);
     }
 }

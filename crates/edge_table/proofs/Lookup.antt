@@ -9,7 +9,7 @@ use native.Mathlib.Nat.{le-refl, le-of-lt, eq-or-lt-of-le}
 use native.Mathlib.Omega.{arith}
 use lib.Dec.{T, leb, ltb}
 use lib.ListN.{length}
-use lib.Ieee.{Float, binary64, lt, le, eq, ne, ofBits, isNan, nan, inf, fin, fits}
+use lib.Ieee.{Float, binary64, lt, le, eq, isNan, nan, inf, fin, fits}
 use lib.Ieee.Scale.{finite}
 use borrow.Author.Tests.{lt-ltb, le-leb, lt-leb, ltb-true, ltb-false, leb-true}
 use Rattle.definitions.specs.Lists.{at}
@@ -32,7 +32,7 @@ use Rattle.reducer.specs.declared.Reducer.the-variants.{Comp0Mean, ComponentSum
 use Rattle.reducer.specs.Readings.{edgesOf, kindOf}
 use Rattle.reducer.specs.Consume.{madeEdges, made, builtBin}
 use Rattle.edge_table.specs.declared.Table.{Table}
-use Rattle.edge_table.specs.Table.{tableOf, within, holds, located, locatedBin, outsideOf, edgeBin, tableBin, valueTableOf}
+use Rattle.edge_table.specs.Table.{tableOf, enclosed, nonzero, holds, located, locatedBin, outsideOf, edgeBin, tableBin, valueTableOf}
 use Rattle.edge_table.specs.Tabled.{Searchable, Usable, EndsOf, Tabled, UsableValues, TabledValues}
 use Rattle.edge_table.proofs.Order.{lt-self, lt-finite, eq-finite, le-lt}
 
@@ -84,9 +84,9 @@ module _ (es : List Float) (u : Searchable es) (x : Float) (f : fits binary64 x 
       let e : g ≡ g + 1 - 1 = omega arith in
       ap some e ∙ halves-at es x (g + 1) (g + 1) (le-refl (g + 1)) (le-refl (g + 1)) (omega arith) above-all below-all (λ z. absurd (omega (arith, z)))
 
-  pub enclosed-bin : outside es x ≡ false → some g ≡ builtBin Irregular es x
+  keyed-bin : outside es x ≡ false → some g ≡ builtBin Irregular es x
   unfolding builtBin irregularIndex
-  enclosed-bin v = rw (v, ← found-edge, lt-ltb g (length es - 1) within)
+  keyed-bin v = rw (v, ← found-edge, lt-ltb g (length es - 1) within)
 
 -- a bin that was tested, or what follows
 pub tested : (t : Bool) (g : ℕ) (o b : Option ℕ) → (t ≡ true → some g ≡ b) → o ≡ b → cond t (some g) o ≡ b
@@ -137,9 +137,10 @@ module _ (es : List Float) (u : Searchable es) (x : Float) (f : fits binary64 x 
           (omega
           (arith, sorted es (u .held) (u .finite) (u .increasing) (g + 1) n (omega arith) (omega arith), key-less (at es n) (at es (g + 1)) (u .held n) (u .held (g + 1)) p q (le-lt (at es n) x (at es (g + 1)) p m q e l)))
 
-  -- what the test of the lower edge shows
-  above-lower : (g : ℕ) → g < length es - 1 → (lt (at es g) x || (eq (at es g) x && ne x (ofBits binary64 0))) ≡ true → lt x (at es (g + 1)) ≡ true → T (finite x) × (orderKey (at es g) ≤ orderKey x)
-  above-lower g w c l = go (lt (at es g) x) refl c
+  -- what the test of the lower edge shows of a value that is no zero
+  above-lower : (g : ℕ) → g < length es - 1 → nonzero x ≡ true → le (at es g) x ≡ true → lt x (at es (g + 1)) ≡ true → T (finite x) × (orderKey (at es g) ≤ orderKey x)
+  unfolding le
+  above-lower g w z c l = go (lt (at es g) x) refl c
     where
       a : T (finite (at es g))
       a = finite-at es g (u .finite) (omega arith)
@@ -147,26 +148,25 @@ module _ (es : List Float) (u : Searchable es) (x : Float) (f : fits binary64 x 
       t : T (fits binary64 x)
       t = subst T (sym f) tt
 
-      go : (b : Bool) → lt (at es g) x ≡ b → (b || (eq (at es g) x && ne x (ofBits binary64 0))) ≡ true → T (finite x) × (orderKey (at es g) ≤ orderKey x)
+      go : (b : Bool) → lt (at es g) x ≡ b → (b || eq (at es g) x) ≡ true → T (finite x) × (orderKey (at es g) ≤ orderKey x)
       go true e k =
           let m = lt-finite (at es g) x (at es (g + 1)) a (finite-at es (g + 1) (u .finite) (omega arith)) e l in
           (m, le-of-lt (key-less (at es g) x (u .held g) t a m e))
       go false e k =
-          let p = and-true (eq (at es g) x) (ne x (ofBits binary64 0)) k in
-          let m = eq-finite (at es g) x a (p .0) in
-          (m, key-equal (at es g) x (u .held g) t a m (p .0) (p .1))
+          let m = eq-finite (at es g) x a k in
+          (m, key-equal (at es g) x (u .held g) t a m k z)
 
   -- so it is inside the ends
-  pub within-bin : (g : ℕ) → within es x g ≡ true → some g ≡ builtBin Irregular es x
-  unfolding within
-  within-bin g c =
+  pub enclosed-bin : (g : ℕ) → nonzero x ≡ true → enclosed es x g ≡ true → some g ≡ builtBin Irregular es x
+  unfolding enclosed
+  enclosed-bin g z c =
       let p = and-true (ltb g (length es - 1)) _ c in
-      let q = and-true (lt (at es g) x || (eq (at es g) x && ne x (ofBits binary64 0))) (lt x (at es (g + 1))) (p .1) in
+      let q = and-true (le (at es g) x) (lt x (at es (g + 1))) (p .1) in
       let w : g < length es - 1 = ltb-true _ _ (p .0) in
       let b = finite-at es (g + 1) (u .finite) (omega arith) in
-      let m = above-lower g w (q .0) (q .1) in
+      let m = above-lower g w z (q .0) (q .1) in
       let o : outside es x ≡ false = rw (finite-number x (m .0), above-first g w (m .1) (m .0), below-last g w (q .1) (m .0)) in
-      enclosed-bin es u x f g w (m .1) (key-less x (at es (g + 1)) (subst T (sym f) tt) (u .held (g + 1)) (m .0) b (q .1)) o
+      keyed-bin es u x f g w (m .1) (key-less x (at es (g + 1)) (subst T (sym f) tt) (u .held (g + 1)) (m .0) b (q .1)) o
 
 -- ---- the search by quarters: a number is not outside the ends
 module _ (es : List Float) (u : Searchable es) (x : Float) (f : fits binary64 x ≡ true) (inside : isNan x ≡ false → outside es x ≡ false) where
@@ -176,11 +176,16 @@ module _ (es : List Float) (u : Searchable es) (x : Float) (f : fits binary64 x 
       let p = and-true (not (isNan x) && ltb g (length es - 1) && leb (orderKey (at es g)) (orderKey x)) (ltb (orderKey x) (orderKey (at es (g + 1)))) c in
       let q = and-true (not (isNan x) && ltb g (length es - 1)) (leb (orderKey (at es g)) (orderKey x)) (p .0) in
       let r = and-true (not (isNan x)) (ltb g (length es - 1)) (q .0) in
-      enclosed-bin es u x f g (ltb-true _ _ (r .1)) (leb-true _ _ (q .1)) (ltb-true _ _ (p .1)) (inside (not-true (isNan x) (r .0)))
+      keyed-bin es u x f g (ltb-true _ _ (r .1)) (leb-true _ _ (q .1)) (ltb-true _ _ (p .1)) (inside (not-true (isNan x) (r .0)))
 
   pub located-found : locatedBin es x ≡ builtBin Irregular es x
   unfolding locatedBin
-  located-found = tested (within es x (located es x)) (located es x) _ _ (within-bin es u x f (located es x)) (tested (holds es x (located es x)) (located es x) _ _ (held-bin (located es x)) refl)
+  located-found = tested (nonzero x && enclosed es x (located es x)) (located es x) _ _ both (tested (holds es x (located es x)) (located es x) _ _ (held-bin (located es x)) refl)
+    where
+      both : (nonzero x && enclosed es x (located es x)) ≡ true → some (located es x) ≡ builtBin Irregular es x
+      both c =
+          let p = and-true (nonzero x) (enclosed es x (located es x)) c in
+          enclosed-bin es u x f (located es x) (p .0) (p .1)
 
 -- ---- a table's edges
 module _ (es : List Float) (x : Float) (f : fits binary64 x ≡ true) (table : Table) where

@@ -1,5 +1,5 @@
 -- The order of numbers: what `lt` and `le` say of each other.
-use mathlib.Core.Path.{_≡_, refl, sym, subst}
+use mathlib.Core.Path.{_≡_, refl, sym, subst, _∙_}
 use mathlib.Core.Bool.{Bool, true, false, _&&_, _||_, true≢false}
 use Prim.Native.Nat.{ℕ, _+_, _*_, _<_, _≤_}
 use native.Mathlib.Nat.{le-refl, le-of-lt, le-of-eq, le-trans, lt-of-lt-of-le, lt-of-le-of-lt, zero-mul, mul-right-comm, mul-pos, mul-le-mul-right, mul-lt-mul-of-pos-right, lt-of-mul-lt-mul-right}
@@ -67,13 +67,12 @@ lt-le (fin s m e) (inf true) h = absurd (true≢false (sym h))
 lt-le (fin s m e) (inf false) h = refl
 lt-le (fin s m e) (fin t n d) h = below-level s t (m * up e * down d) (n * up d * down e) h
 
-pub lt-not : (x y : Float) → lt x y ≡ true → lt y x ≡ false
-unfolding le
-lt-not x y h = first (lt y x) (eq y x) (lt-le x y h)
+pub le-not : (x y : Float) → le x y ≡ true → lt y x ≡ false
+le-not x y h = go (lt y x) refl
   where
-    first : (a b : Bool) → (a || b) ≡ false → a ≡ false
-    first false b e = refl
-    first true b e = e
+    go : (b : Bool) → lt y x ≡ b → b ≡ false
+    go false e = refl
+    go true e = absurd (true≢false (sym h ∙ lt-le y x e))
 
 -- ---- a number that is not above x is below what x is below
 factor-pos : (k y : ℕ) → 0 < k * y → 0 < k

@@ -1,45 +1,36 @@
 -- Each way through the tests of a bin, the search and a hint's trial, and the definition that its answer meets.
 use mathlib.Core.Path.{_≡_, refl, sym, _∙_}
 use mathlib.Core.Option.{Option, some}
-use mathlib.Core.Bool.{Bool, true, false}
+use mathlib.Core.Bool.{Bool, true, false, not, _&&_}
 use mathlib.Core.List.{List}
-use Prim.Native.Nat.{ℕ, _+_, _-_, _*_, _^_, _<_, _≤_}
+use Prim.Native.Nat.{ℕ, _+_, _-_, _*_, _%_, _^_, _<_, _≤_}
 use native.Mathlib.Omega.{arith}
 use lib.Dec.{ltb}
 use lib.ListN.{length, getD}
-use lib.Ieee.{Float, lt, le, eq, ne, isNan, ofBits, binary64}
-use borrow.Author.Tests.{lt-ltb, le-ltb, le-leb, lt-leb}
+use lib.Ieee.{Float, binary64, add, mul, lt, le, isNan, toBits}
+use borrow.Author.Tests.{lt-ltb, le-ltb, le-leb, lt-leb, eq-eqb, ne-eqb}
 use Rattle.definitions.specs.Lists.{at}
 use Rattle.floats.specs.Order.{orderKey}
 use Rattle.reducer.specs.declared.BuiltEdges.the-variants.{Irregular}
 use Rattle.reducer.specs.Consume.{builtBin}
-use Rattle.edge_table.specs.Table.{bit, within, holds, stepUp, climb, located, locatedBin, nearHint, sureAt}
-use Rattle.edge_table.proofs.Order.{lt-not, lt-le}
+use Rattle.edge_table.specs.declared.Table.{Table}
+use Rattle.edge_table.specs.Table.{bit, endOf, enclosed, nonzero, holds, stepUp, climb, located, locatedBin, outsideOf, placeOf, nearHint, sureAt}
+use Rattle.edge_table.proofs.Order.{le-not, lt-le}
 
 -- ---- the tests of a bin
 module _ (list : List Float) (x : Float) (h n : ℕ) (e : n ≡ length list - 1) where
-  pub within-past : n ≤ h → false ≡ within list x h
-  unfolding within
-  within-past l = rw (← e, le-ltb h n l)
+  pub enclosed-past : n ≤ h → false ≡ enclosed list x h
+  unfolding enclosed
+  enclosed-past l = rw (← e, le-ltb h n l)
 
   module _ (l : h < n) where
-    pub within-above : lt (at list h) x ≡ true → lt x (at list (h + 1)) ≡ within list x h
-    unfolding within
-    within-above t = rw (← e, lt-ltb h n l, t)
+    pub enclosed-low : le (at list h) x ≡ false → false ≡ enclosed list x h
+    unfolding enclosed
+    enclosed-low t = rw (← e, lt-ltb h n l, t)
 
-    module _ (t : lt (at list h) x ≡ false) where
-      pub within-below : eq (at list h) x ≡ false → false ≡ within list x h
-      unfolding within
-      within-below u = rw (← e, lt-ltb h n l, t, u)
-
-      module _ (u : eq (at list h) x ≡ true) where
-        pub within-zero : ne x (ofBits binary64 0) ≡ false → false ≡ within list x h
-        unfolding within
-        within-zero v = rw (← e, lt-ltb h n l, t, u, v)
-
-        pub within-edge : ne x (ofBits binary64 0) ≡ true → lt x (at list (h + 1)) ≡ within list x h
-        unfolding within
-        within-edge v = rw (← e, lt-ltb h n l, t, u, v)
+    pub enclosed-is : le (at list h) x ≡ true → lt x (at list (h + 1)) ≡ enclosed list x h
+    unfolding enclosed
+    enclosed-is t = rw (← e, lt-ltb h n l, t)
 
 -- r is the answer of `is_nan`, k, a and b are the keys
 module _ (list : List Float) (x : Float) (h : ℕ) (r : Bool) (q : r ≡ isNan x) where
@@ -79,21 +70,27 @@ module _ (list : List Float) (x : Float) where
   unfolding located
   located-many c d e r h p q s t = rw (lt-leb (length list) 33 h, ← p, ← q, ← s) t
 
--- ---- one value; g is the answer of `locate`, s of `is_within`, t of `is_held`
-module _ (list : List Float) (x : Float) (s : Bool) where
-  module _ (g : ℕ) (e : g ≡ located list x) (q : s ≡ within list x g) where
-    pub located-within : s ≡ true → some g ≡ locatedBin list x
+-- ---- one value; g is the answer of `locate`, s of `is_enclosed`, t of `is_held`
+module _ (list : List Float) (x : Float) (g : ℕ) (e : g ≡ located list x) where
+  pub located-enclosed : (s : Bool) → nonzero x ≡ true → s ≡ enclosed list x g → s ≡ true → some g ≡ locatedBin list x
+  unfolding locatedBin
+  located-enclosed s z q h = rw (← e, z, ← q, h)
+
+  -- it is a zero, or the edges do not enclose it
+  module _ (z : (nonzero x && enclosed list x g) ≡ false) (t : Bool) (k : t ≡ holds list x g) where
+    pub located-held : t ≡ true → some g ≡ locatedBin list x
     unfolding locatedBin
-    located-within h = rw (← e, ← q, h)
+    located-held h = rw (← e, z, ← k, h)
 
-    module _ (a : s ≡ false) (t : Bool) (k : t ≡ holds list x g) where
-      pub located-held : t ≡ true → some g ≡ locatedBin list x
-      unfolding locatedBin
-      located-held h = rw (← e, ← q, a, ← k, h)
+    pub located-plain : (o : Option ℕ) → t ≡ false → o ≡ builtBin Irregular list x → o ≡ locatedBin list x
+    unfolding locatedBin
+    located-plain o h p = rw (← e, z, ← k, h) p
 
-      pub located-plain : (o : Option ℕ) → t ≡ false → o ≡ builtBin Irregular list x → o ≡ locatedBin list x
-      unfolding locatedBin
-      located-plain o h p = rw (← e, ← q, a, ← k, h) p
+  pub not-zero : nonzero x ≡ false → (nonzero x && enclosed list x g) ≡ false
+  not-zero z = rw z
+
+  pub not-enclosed : (s : Bool) → nonzero x ≡ true → s ≡ enclosed list x g → s ≡ false → (nonzero x && enclosed list x g) ≡ false
+  not-enclosed s z q h = rw (z, ← q, h)
 
 -- t is the edge that was read, w the answer of `step_up`
 module _ (list : List Float) (x t : Float) (h : ℕ) (e : t ≡ at list h) where
@@ -105,28 +102,54 @@ module _ (list : List Float) (x t : Float) (h : ℕ) (e : t ≡ at list h) where
   unfolding nearHint
   near-above w l r = rw (← e, l, r)
 
--- ---- a hint's trial
-module _ (list : List Float) (hints : List ℕ) (x : Float) (p : ℕ) where
-  pub sure-none : length hints ≤ p → 2 ^ 64 - 1 ≡ sureAt list hints x p
-  unfolding sureAt
-  sure-none l = rw (le-ltb p (length hints) l)
+-- ---- a value's place; r is the answer of `is_outside`, b of `to_bits`
+module _ (inside : Bool) (table : Table) (x : Float) where
+  pub place-outside : (r : Bool) → not inside ≡ true → r ≡ outsideOf table x → r ≡ true → 4096 ≡ placeOf inside table x
+  unfolding placeOf
+  place-outside r i q t = rw (i, ← q, t)
 
-  module _ (k : p < length hints) where
-    -- g is the answer of `near_hint`, s of `is_within`
-    module _ (g : ℕ) (v : g ≡ nearHint list x (getD hints p 0)) (s : Bool) (q : s ≡ within list x g) where
+  module _ (w : (not inside && outsideOf table x) ≡ false) where
+    pub place-zero : nonzero x ≡ false → 2 ^ 64 - 1 ≡ placeOf inside table x
+    unfolding placeOf
+    place-zero z = rw (w, z)
+
+    pub place-is : (b : ℕ) → nonzero x ≡ true → b ≡ toBits binary64 (add binary64 (mul binary64 x (table .scale)) (table .offset)) → b % 4096 ≡ placeOf inside table x
+    unfolding placeOf
+    place-is b z e = rw (w, z, e)
+
+  pub known-inside : not inside ≡ false → (not inside && outsideOf table x) ≡ false
+  known-inside i = rw i
+
+  pub found-inside : (r : Bool) → not inside ≡ true → r ≡ outsideOf table x → r ≡ false → (not inside && outsideOf table x) ≡ false
+  found-inside r i q t = rw (i, ← q, t)
+
+-- ---- a hint's trial; m is the answer of `end_of`
+module _ (list : List Float) (hints : List ℕ) (x : Float) (p m : ℕ) (e : m ≡ endOf 4096 (length hints)) where
+  module _ (l : m ≤ p) where
+    pub sure-none : p ≡ 4096 → 4096 ≡ sureAt list hints x p
+    unfolding sureAt
+    sure-none q = rw (← e, le-ltb p m l, eq-eqb p 4096 q)
+
+    pub sure-unplaced : (p ≡ 4096 → ⊥) → 2 ^ 64 - 1 ≡ sureAt list hints x p
+    unfolding sureAt
+    sure-unplaced q = rw (← e, le-ltb p m l, ne-eqb p 4096 q)
+
+  module _ (k : p < m) where
+    -- g is the answer of `near_hint`, s of `is_enclosed`
+    module _ (g : ℕ) (v : g ≡ nearHint list x (getD hints p 0)) (s : Bool) (q : s ≡ enclosed list x g) where
       pub sure-right : s ≡ true → g ≡ sureAt list hints x p
       unfolding sureAt
-      sure-right t = rw (lt-ltb p (length hints) k, ← v, ← q, t)
+      sure-right t = rw (← e, lt-ltb p m k, ← v, ← q, t)
 
       pub sure-wrong : s ≡ false → 2 ^ 64 - 1 ≡ sureAt list hints x p
       unfolding sureAt
-      sure-wrong t = rw (lt-ltb p (length hints) k, ← v, ← q, t)
+      sure-wrong t = rw (← e, lt-ltb p m k, ← v, ← q, t)
 
-    -- m is how many bins there are; between its edges a value points to no other bin
-    pub sure-quick : (m : ℕ) → m ≡ length list - 1 → getD hints p 0 < m → lt (at list (getD hints p 0)) x ≡ true → lt x (at list (getD hints p 0 + 1)) ≡ true → getD hints p 0 ≡ sureAt list hints x p
+    -- n is how many bins there are; between its edges a value points to no other bin
+    pub sure-quick : (n : ℕ) → n ≡ length list - 1 → getD hints p 0 < n → le (at list (getD hints p 0)) x ≡ true → lt x (at list (getD hints p 0 + 1)) ≡ true → getD hints p 0 ≡ sureAt list hints x p
     unfolding stepUp nearHint
-    sure-quick m f l a b =
+    sure-quick n f l a b =
         let h = getD hints p 0 in
         let z : h ≡ h + 0 = omega arith in
-        let u : h ≡ nearHint list x h = rw (lt-not (at list h) x a, lt-le x (at list (h + 1)) b) z in
-        sure-right h u true (sym b ∙ within-above list x h m f l a) refl
+        let u : h ≡ nearHint list x h = rw (le-not (at list h) x a, lt-le x (at list (h + 1)) b) z in
+        sure-right h u true (sym b ∙ enclosed-is list x h n f l a) refl

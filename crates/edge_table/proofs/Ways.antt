@@ -1,10 +1,10 @@
 -- Each way through the code, and the definition that its answer meets.
 use mathlib.Core.Path.{_≡_, refl, sym, ap, _∙_}
 use mathlib.Core.Option.{Option, none}
-use mathlib.Core.Bool.{Bool, true, false}
+use mathlib.Core.Bool.{Bool, true, false, cond}
 use mathlib.Core.List.{List}
 use Prim.Native.Nat.{ℕ, suc, _+_, _-_, _*_, _/_, _%_, _^_, _<_, _≤_}
-use native.Mathlib.Nat.{zero-mul, one-mul}
+use native.Mathlib.Nat.{le-refl, zero-mul, one-mul}
 use native.Mathlib.Numerals.{add-one}
 use native.Mathlib.Omega.{arith}
 use lib.Dec.{ltb}
@@ -32,6 +32,14 @@ module _ (q m : ℕ) where
   pub end-past : m ≤ q → m ≡ endOf q m
   unfolding endOf
   end-past h = rw (le-ltb q m h)
+
+  pub end-le : endOf q m ≤ q
+  unfolding endOf
+  end-le = go (ltb q m) refl
+    where
+      go : (b : Bool) → ltb q m ≡ b → cond b q m ≤ q
+      go true e = le-refl q
+      go false e = ltb-false q m e
 
 module _ (p b : ℕ) (hints : List ℕ) where
   pub spread-none : hints ≡ spread p b (p - p) hints

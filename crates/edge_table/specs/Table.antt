@@ -3,9 +3,9 @@ use mathlib.Core.Option.{Option, none, some}
 use mathlib.Core.List.{List}
 use mathlib.Core.Bool.{Bool, true, false, cond, not, _&&_, _||_}
 use Prim.Native.Nat.{ℕ, zero, suc, _+_, _-_, _*_, _%_, _^_}
-use lib.Dec.{leb, ltb}
+use lib.Dec.{leb, ltb, eqb}
 use lib.ListN.{length, getD, set}
-use lib.Ieee.{Float, binary64, add, sub, mul, div, lt, le, eq, ne, isNan, ofBits, toBits}
+use lib.Ieee.{Float, binary64, add, sub, mul, div, lt, le, ne, isNan, ofBits, toBits}
 use Rattle.definitions.specs.Lists.{at}
 use Rattle.floats.specs.Order.{orderKey}
 use Rattle.reducer.specs.declared.BuiltEdges.{BuiltEdges}
@@ -23,14 +23,7 @@ tableOf Irregular list span =
     record { first = at list 0; last = at list (length list - 1); scale = scale; offset = sub binary64 (ofBits binary64 0x4330_0000_0000_0001) (mul binary64 (at list 0) scale) }
 
 -- ---- hints
--- the value's place: with 2^52 in the offset the sum is rounded to a whole number, which the low bits then hold
-abbrev pub spot : Table → Float → Float
-spot table x = add binary64 (mul binary64 x (table .scale)) (table .offset)
-
-unfoldable pub placeOf : Table → Float → ℕ
-placeOf table x = toBits binary64 (spot table x) % 4096
-
--- an edge's: half a place on, so the first whose middle is not below it
+-- an edge's place: with 2^52 in the offset the sum is rounded to a whole number, which the low bits then hold; half a place on, so the first whose middle is not below it
 unfoldable pub edgePlace : Table → Float → ℕ
 edgePlace table x = toBits binary64 (add binary64 (add binary64 (mul binary64 x (table .scale)) (ofBits binary64 0x3fe0_0000_0000_0000)) (table .offset)) % 4096
 
@@ -63,9 +56,13 @@ abbrev pub bit : Bool → ℕ
 bit true = 1
 bit false = 0
 
--- between the edges of bin h, or its lower one and no zero: two zeros that compare equal may stand on two sides of an edge
-unfoldable pub within : List Float → Float → ℕ → Bool
-within list x h = ltb h (length list - 1) && ((lt (at list h) x || (eq (at list h) x && ne x (ofBits binary64 0))) && lt x (at list (h + 1)))
+-- not below the lower edge of bin h, and below its upper one
+unfoldable pub enclosed : List Float → Float → ℕ → Bool
+enclosed list x h = ltb h (length list - 1) && (le (at list h) x && lt x (at list (h + 1)))
+
+-- no zero: two zeros that compare equal may stand on two sides of an edge
+abbrev pub nonzero : Float → Bool
+nonzero x = ne x (ofBits binary64 0)
 
 -- x is a number, and the keys of bin h's edges enclose its own
 unfoldable pub holds : List Float → Float → ℕ → Bool
@@ -86,7 +83,7 @@ located list x =
 
 -- what the search by quarters finds, tested by the edges, then by the keys; else the plain lookup
 unfoldable pub locatedBin : List Float → Float → Option ℕ
-locatedBin list x = cond (within list x (located list x)) (some (located list x)) (cond (holds list x (located list x)) (some (located list x)) (builtBin Irregular list x))
+locatedBin list x = cond (nonzero x && enclosed list x (located list x)) (some (located list x)) (cond (holds list x (located list x)) (some (located list x)) (builtBin Irregular list x))
 
 unfoldable pub outsideOf : Table → Float → Bool
 outsideOf table x = isNan x || lt x (table .first) || le (table .last) x
@@ -99,15 +96,20 @@ tableBin (Regular e) list table x = builtBin (Regular e) list x
 tableBin Irregular list table x = edgeBin list table x
 
 -- ---- hints tried
+-- a value's place of hints; 4096 past the ends, unless no value is; a mark past every place for a zero
+unfoldable pub placeOf : Bool → Table → Float → ℕ
+placeOf inside table x =
+    cond (not inside && outsideOf table x) 4096 (cond (nonzero x) (toBits binary64 (add binary64 (mul binary64 x (table .scale)) (table .offset)) % 4096) (2 ^ 64 - 1))
+
 -- h, or the bin beside it to which the value points
 unfoldable pub nearHint : List Float → Float → ℕ → ℕ
 nearHint list x h = cond (lt x (at list h)) (h - 1) (h + stepUp list x (h + 1) 1)
 
--- the hint at place p or the bin beside it, tested by the edges alone; a mark past every bin where there is no hint or the test fails
+-- the hint at place p or the bin beside it, where the edges enclose the value; 4096 stays, and all else is a mark past every bin
 unfoldable pub sureAt : List Float → List ℕ → Float → ℕ → ℕ
 sureAt list hints x p =
     let g = nearHint list x (getD hints p 0) in
-    cond (ltb p (length hints) && within list x g) g (2 ^ 64 - 1)
+    cond (ltb p (endOf 4096 (length hints))) (cond (enclosed list x g) g (2 ^ 64 - 1)) (cond (eqb p 4096) 4096 (2 ^ 64 - 1))
 
 -- ---- value edges, which a histogram has
 abbrev pub noTable : Table

@@ -8,7 +8,7 @@ ghost use lib.ListN.{length};
 ghost use Rattle.definitions.specs.Lists.{at};
 ghost use Rattle.floats.specs.Order.{orderKey};
 ghost use Rattle.bins.specs.Answers.{indexOf};
-ghost use Rattle.edge_table.specs.Table.{tableOf, placeOf, edgePlace, endOf, spread, binHinted, hintsOf, hintsFor, outsideOf, edgeBin, tableBin, noTable, valueTableOf, valueHintsFor, within, holds, stepUp, climb, located, locatedBin, nearHint, sureAt};
+ghost use Rattle.edge_table.specs.Table.{tableOf, placeOf, edgePlace, endOf, spread, binHinted, hintsOf, hintsFor, outsideOf, edgeBin, tableBin, noTable, valueTableOf, valueHintsFor, enclosed, holds, stepUp, climb, located, locatedBin, nearHint, sureAt};
 
 // Ends of the edges; a value's place of hints is scale times it plus offset.
 pub struct Table {
@@ -64,15 +64,7 @@ pub fn table_of(edges: BuiltEdges, list: &[f64], span: f64) -> Table
 
 // ---- hints
 
-// With 2^52 in the offset the sum is rounded to a whole number, which the low bits then hold.
-pub fn place_of(table: Table, value: f64) -> usize
-    ensures { λ r. ⌜ (r ≡ placeOf table value) × (r < 4096) ⌝ }
-{
-    let x = value * table.scale + table.offset;
-    (floats::to_bits(x) % 4096) as usize
-}
-
-// An edge's place: the first whose middle is not below it.
+// An edge's place: the first whose middle is not below it. With 2^52 in the offset the sum is rounded to a whole number, which the low bits then hold.
 fn edge_place(table: Table, edge: f64) -> usize
     ensures { λ r. ⌜ (r ≡ edgePlace table edge) × (r < 4096) ⌝ }
 {
@@ -132,21 +124,16 @@ pub fn fill_hints(edges: BuiltEdges, list: &[f64], table: Table, hints: &mut [u8
 
 // ---- lookups
 
-// Whether the edges of bin h show that it holds x: between them, or its lower one and no zero, since two zeros that compare equal may stand on two sides of an edge.
-fn is_within(list: &[f64], x: f64, h: usize) -> bool
-    ensures { λ r. ⌜ r ≡ within (now (list .entry)) x h ⌝ }
+// Not below the lower edge of bin h, and below its upper one.
+fn is_enclosed(list: &[f64], x: f64, h: usize) -> bool
+    ensures { λ r. ⌜ r ≡ enclosed (now (list .entry)) x h ⌝ }
 {
     let n = reducer::n_bins(BuiltEdges::Irregular, list.len());
     if h >= n {
         return false;
     }
-    if list[h] < x {
+    if list[h] <= x {
         return x < list[h + 1];
-    }
-    if list[h] == x {
-        if x != 0.0 {
-            return x < list[h + 1];
-        }
     }
     false
 }
@@ -206,8 +193,10 @@ fn located_bin(list: &[f64], x: f64) -> BinIndex
     ensures { λ r. ⌜ indexOf r ≡ locatedBin (now (list .entry)) x ⌝ }
 {
     let h = locate(list, x);
-    if is_within(list, x, h) {
-        return BinIndex::At(h);
+    if x != 0.0 {
+        if is_enclosed(list, x, h) {
+            return BinIndex::At(h);
+        }
     }
     if is_held(list, x, h) {
         return BinIndex::At(h);
@@ -250,6 +239,22 @@ pub fn bin_of(edges: BuiltEdges, list: &[f64], table: Table, value: f64) -> BinI
 
 // ---- hints tried
 
+// A value's place of hints. 4096 past the ends, unless it is known that no value is; the largest usize for a zero, since two zeros that compare equal may stand on two sides of an edge.
+pub fn place_of(inside: bool, table: Table, value: f64) -> usize
+    ensures { λ r. ⌜ r ≡ placeOf inside table value ⌝ }
+{
+    if !inside {
+        if is_outside(table, value) {
+            return 4096;
+        }
+    }
+    if value != 0.0 {
+        let x = value * table.scale + table.offset;
+        return (floats::to_bits(x) % 4096) as usize;
+    }
+    usize::MAX
+}
+
 // h, or the bin beside it to which the value points.
 fn near_hint(list: &[f64], x: f64, h: usize) -> usize
     requires { ⌜ h ≤ 255 ⌝ }
@@ -262,24 +267,28 @@ fn near_hint(list: &[f64], x: f64, h: usize) -> usize
     h + step_up(list, x, h + 1, 1)
 }
 
-// The bin of the hint at place p or the one beside it where the edges show that it holds the value, else the largest usize; in most lookups the first way out.
+// The bin of the hint at place p or the one beside it where the edges enclose the value, in most lookups by the first way out; 4096 stays, and all else is the largest usize.
 pub fn sure_at(list: &[f64], hints: &[u8], x: f64, p: usize) -> usize
     ensures { λ r. ⌜ r ≡ sureAt (now (list .entry)) (now (hints .entry)) x p ⌝ }
 {
-    if p >= hints.len() {
-        return usize::MAX;
+    if p >= end_of(4096, hints.len()) {
+        return if p == 4096 { 4096 } else { usize::MAX };
     }
     let h = hints[p] as usize;
     let n = reducer::n_bins(BuiltEdges::Irregular, list.len());
     if h < n {
-        if list[h] < x {
+        if list[h] <= x {
             if x < list[h + 1] {
                 return h;
             }
         }
     }
     let g = near_hint(list, x, h);
-    if is_within(list, x, g) { g } else { usize::MAX }
+    if is_enclosed(list, x, g) {
+        g
+    } else {
+        usize::MAX
+    }
 }
 
 // ---- value edges, which a mean has not

@@ -21,6 +21,17 @@ impl Numbers {
         }
     }
 
+    /// Whole numbers: positions from 0 to 15, values from -8 to 8, weights from 1 to 4.
+    fn whole(count: usize, seed: u64) -> Self {
+        let mut rng = Rng::new(seed);
+        let mut below = |n: f64| (rng.unit() * n).floor();
+        Numbers {
+            positions: (0..3 * count).map(|_| below(16.0)).collect(),
+            values: (0..3 * count).map(|_| below(17.0) - 8.0).collect(),
+            weights: (0..count).map(|_| below(4.0) + 1.0).collect(),
+        }
+    }
+
     fn points(&self, count: usize) -> Points<'_> {
         Points {
             positions: &self.positions[..3 * count],
@@ -152,6 +163,41 @@ fn blocks(table: &mut Table, sets: Sets, name: &str) {
             &case,
         );
     }
+}
+
+/// Values that are edges, and values past the ends: what hints and guesses do not settle at once.
+pub fn directed(table: &mut Table) {
+    table.head("4,096 points auto: values on edges and past the ends. Microseconds a call.");
+    let (whole, numbers) = (Numbers::whole(4096, 5), Numbers::new(4096, 1));
+    let sets = Sets::Points(whole.points(4096), None);
+    let edges: Vec<f64> = (0..=25).map(|k| f64::from(k * k)).collect();
+    let value: Vec<f64> = (0..=16).map(|k| f64::from(12 * k - 97)).collect();
+    let (distances, value) = (Edges::Irregular(&edges), Edges::Irregular(&value));
+    let kinds = [
+        ("mean, irregular 25", distances, Kind::ComponentSumMean),
+        ("mean, regular 32", even(640.0, 32), Kind::ComponentSumMean),
+        (
+            "histogram, irregular 25, irregular values 16",
+            distances,
+            Kind::ComponentSumHistogram(value),
+        ),
+    ];
+    for (name, edges, kind) in kinds {
+        let case = Case::new(sets, edges, kind);
+        table.row(&format!("points whole, {name}"), &case);
+    }
+    let sets = Sets::Points(numbers.points(4096), None);
+    let narrow = Edges::Regular {
+        min: -0.05,
+        max: 0.05,
+        n: 16,
+    };
+    let kind = Kind::ComponentSumHistogram(narrow);
+    let case = Case::new(sets, even(1.0, 32), kind);
+    table.row(
+        "points past the ends, histogram, regular 32, narrow values 16",
+        &case,
+    );
 }
 
 /// From the smallest sets on.

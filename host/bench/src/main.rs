@@ -14,6 +14,7 @@ fn main() -> ExitCode {
     let only = words.get(1).map_or("", String::as_str);
     let mut table = table::Table::new(repetitions, only);
     inputs::large(&mut table);
+    inputs::directed(&mut table);
     inputs::growth(&mut table);
     inputs::small_stack();
     limits::print();

@@ -10,10 +10,10 @@ use Rattle.edge_batch.proofs.places_of.Lts as lts
 use Rattle.edge_table.proofs.place_of.Reads as place-of-reads
 
 abbrev Inv-loop : tie.InvT-loop
-Inv-loop table x found₀ q₀ found q = Done (λ v n. placeOf table v) x found₀ q found
+Inv-loop inside table x found₀ q₀ found q = Done (λ v n. placeOf inside table v) x found₀ q found
 
 abbrev μ-loop : tie.MeasureT-loop
-μ-loop table x found₀ q₀ found q = length x - q
+μ-loop inside table x found₀ q₀ found q = length x - q
 
 -- src/lib.rt:31:5
 loop-holds : tie.Need-loop-holds Inv-loop μ-loop
