@@ -1,14 +1,14 @@
 -- What a batch's lookup leaves, and the edges' own bins.
 use mathlib.Core.Path.{_≡_, refl, sym, ap, subst, _∙_}
 use mathlib.Core.Option.{Option, none, some}
-use mathlib.Core.Bool.{Bool, true, false, cond, not, _&&_, _||_}
+use mathlib.Core.Bool.{Bool, true, false, cond, not, _||_}
 use mathlib.Core.List.{List, [], _∷_, map}
-use Prim.Native.Nat.{ℕ, suc, _-_, _%_, _^_, _<_, _≤_}
+use Prim.Native.Nat.{ℕ, zero, suc, _+_, _-_, _*_, _/_, _%_, _^_, _<_, _≤_}
 use native.Mathlib.Nat.{le-trans}
 use native.Mathlib.Omega.{arith}
 use lib.Dec.{ltb, eqb, T}
 use lib.ListN.{length, getD, length-map}
-use lib.Ieee.{Float, lt, le, isNan, binary64, add, mul, toBits, fits}
+use lib.Ieee.{Float, lt, le, eq, ne, binary64, add, mul, ofBits, toBits, fits}
 use lib.Ieee.Bits.{is-true}
 use borrow.Author.Tests.{lt-ltb, le-ltb, ltb-true, eq-eqb, ne-eqb}
 use Rattle.definitions.specs.Lists.{at}
@@ -22,10 +22,10 @@ use Rattle.reducer.specs.Consume as consume
 use Rattle.reducer.specs.Consume.{builtBins, builtFind, builtBin}
 use Rattle.reducer.proofs.Placewise.{below-again}
 use Rattle.edge_table.specs.declared.Table.{Table}
-use Rattle.edge_table.specs.Table.{endOf, placeOf, nearHint, enclosed, nonzero, outsideOf, sureAt, tableBin}
+use Rattle.edge_table.specs.Table.{endOf, placeOf, nearHint, bit, pastEnd, enclosed, nonzero, sureAt, tableBin}
 use Rattle.edge_table.specs.Tabled.{Tabled}
 use Rattle.edge_table.proofs.Ways.{end-le}
-use Rattle.edge_table.proofs.Lookup.{and-true, outside, enclosed-bin, found-bin, none-outside}
+use Rattle.edge_table.proofs.Lookup.{bin-low, bin-high, enclosed-bin, found-bin}
 use Rattle.edge_batch.specs.Batch.{numberOr, quotient, isPast, numberFor, sureNumber, AtMost, each, sure, settled, settledOr, batchNumber, foundOf, numberIn}
 use Rattle.edge_batch.proofs.Loops.{each-map}
 use Rattle.edge_batch.proofs.Cuts.{sure-within}
@@ -88,9 +88,13 @@ module _ (inside : Bool) (edges : BuiltEdges) (list : List Float) (hints : List 
 module _ (es : List Float) (hints : List ℕ) (table : Table) where
   module _ (x : Float) where
     -- what is no place
-    unplaced : (p : ℕ) → 4096 ≤ p → sureAt es hints x p ≡ cond (eqb p 4096) 4096 (2 ^ 64 - 1)
+    unplaced : (p : ℕ) → 4096 ≤ p → sureAt es hints x p ≡ cond (eqb (p / 4096) 1) 4096 (2 ^ 64 - 1)
     unfolding sureAt
     unplaced p h = rw (le-ltb p (endOf 4096 (length hints)) (le-trans (end-le 4096 (length hints)) h))
+
+    no-zero : eq x (ofBits binary64 0) ≡ false → nonzero x ≡ true
+    unfolding ne
+    no-zero k = ap not k
 
     module _ (t : Tabled Irregular es table) (f : fits binary64 x ≡ true) where
       -- a hint that is no mark was tested
@@ -101,29 +105,49 @@ module _ (es : List Float) (hints : List ℕ) (table : Table) where
           g : ℕ
           g = nearHint es x (getD hints p 0)
 
-          go : (b s : Bool) → enclosed es x g ≡ s → cond b (cond s g (2 ^ 64 - 1)) (cond (eqb p 4096) 4096 (2 ^ 64 - 1)) < 8192
-              → cond b (cond s g (2 ^ 64 - 1)) (cond (eqb p 4096) 4096 (2 ^ 64 - 1)) ≡ numberOr (builtBin Irregular es x)
+          go : (b s : Bool) → enclosed es x g ≡ s → cond b (cond s g (2 ^ 64 - 1)) (cond (eqb (p / 4096) 1) 4096 (2 ^ 64 - 1)) < 8192
+              → cond b (cond s g (2 ^ 64 - 1)) (cond (eqb (p / 4096) 1) 4096 (2 ^ 64 - 1)) ≡ numberOr (builtBin Irregular es x)
           go true true e l = ap numberOr (enclosed-bin es (t .usable) x f g z e)
           go true false e l = absurd (omega (arith, l))
           go false s e l =
-              let n : eqb p 4096 ≡ false = ne-eqb p 4096 (λ w. omega (arith, w, h)) in
+              let n : eqb (p / 4096) 1 ≡ false = ne-eqb (p / 4096) 1 (λ w. omega (arith, w, h)) in
               absurd (omega (arith, subst (λ (b : Bool). cond b 4096 (2 ^ 64 - 1) < 8192) n l))
 
-      -- outside the ends, a zero, or tried
-      sure-found : (inside : Bool) → sureAt es hints x (placeOf inside table x) < 8192 → sureAt es hints x (placeOf inside table x) ≡ numberOr (builtBin Irregular es x)
-      unfolding placeOf outsideOf
-      sure-found inside = go (not inside && outsideOf table x) (nonzero x) refl refl
-        where
-          place : ℕ
-          place = toBits binary64 (add binary64 (mul binary64 x (table .scale)) (table .offset)) % 4096
+      past-le : (inside : Bool) → pastEnd inside table x ≤ 1
+      unfolding pastEnd
+      past-le true = omega arith
+      past-le false = omega arith
 
-          go : (o z : Bool) → (not inside && outsideOf table x) ≡ o → nonzero x ≡ z → sureAt es hints x (cond o 4096 (cond z place (2 ^ 64 - 1))) < 8192
-              → sureAt es hints x (cond o 4096 (cond z place (2 ^ 64 - 1))) ≡ numberOr (builtBin Irregular es x)
-          go true z i k l =
-              let o : outside es x ≡ true = sym (λ j. isNan x || lt x (t .ends .0 j) || le (t .ends .1 j) x) ∙ and-true (not inside) (outsideOf table x) i .1 in
-              unplaced 4096 (omega arith) ∙ ap numberOr (none-outside es x o)
-          go false true i k l = tried place k (omega arith) l
-          go false false i k l = absurd (omega (arith, l, unplaced (2 ^ 64 - 1) (omega arith)))
+      past-none : (inside : Bool) → pastEnd inside table x ≡ 1 → none ≡ builtBin Irregular es x
+      unfolding pastEnd
+      past-none true h = absurd (omega (arith, h))
+      past-none false h = go (lt x (table .first)) (le (table .last) x) refl refl h
+        where
+          go : (a b : Bool) → lt x (table .first) ≡ a → le (table .last) x ≡ b → 1 - (1 - bit a) * (1 - bit b) ≡ 1 → none ≡ builtBin Irregular es x
+          go true b e g k = bin-low es (table .first) (table .last) x Irregular (t .ends) e
+          go false true e g k = bin-high es (table .first) (table .last) x Irregular (t .ends) g
+          go false false e g k = absurd (omega (arith, k))
+
+      -- past an end, a zero, or tried
+      sure-found : (inside : Bool) → sureAt es hints x (placeOf inside table x) < 8192 → sureAt es hints x (placeOf inside table x) ≡ numberOr (builtBin Irregular es x)
+      unfolding placeOf
+      sure-found inside = go (pastEnd inside table x) (eq x (ofBits binary64 0)) refl refl
+        where
+          m : ℕ
+          m = toBits binary64 (add binary64 (mul binary64 x (table .scale)) (table .offset))
+
+          go : (o : ℕ) (z : Bool) → pastEnd inside table x ≡ o → eq x (ofBits binary64 0) ≡ z → sureAt es hints x (m % 4096 + (4096 * o + 8192 * bit z)) < 8192
+              → sureAt es hints x (m % 4096 + (4096 * o + 8192 * bit z)) ≡ numberOr (builtBin Irregular es x)
+          go o true i k l =
+              let n : eqb ((m % 4096 + (4096 * o + 8192)) / 4096) 1 ≡ false = ne-eqb ((m % 4096 + (4096 * o + 8192)) / 4096) 1 (λ w. omega (arith, w)) in
+              absurd (omega (arith, l, unplaced (m % 4096 + (4096 * o + 8192)) (omega arith) ∙ ap (λ (b : Bool). cond b 4096 (2 ^ 64 - 1)) n))
+          go zero false i k l =
+              let p : m % 4096 ≡ m % 4096 + (4096 * 0 + 8192 * 0) = omega arith in
+              sym (ap (sureAt es hints x) p) ∙ tried (m % 4096) (no-zero k) (omega arith) (subst (λ (q : ℕ). sureAt es hints x q < 8192) (sym p) l)
+          go (suc zero) false i k l =
+              let n : eqb ((m % 4096 + (4096 * 1 + 8192 * 0)) / 4096) 1 ≡ true = eq-eqb ((m % 4096 + (4096 * 1 + 8192 * 0)) / 4096) 1 (omega arith) in
+              unplaced (m % 4096 + (4096 * 1 + 8192 * 0)) (omega arith) ∙ ap (λ (b : Bool). cond b 4096 (2 ^ 64 - 1)) n ∙ ap numberOr (past-none inside i)
+          go (suc (suc o)) false i k l = absurd (omega (arith, i, past-le inside))
 
   module _ (inside : Bool) (edges : BuiltEdges) (t : Tabled edges es table) where
     batch-number : (x : Float) → fits binary64 x ≡ true → batchNumber inside edges es hints table x ≡ numberIn inside edges es x

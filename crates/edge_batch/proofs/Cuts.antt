@@ -11,7 +11,7 @@ use Rattle.definitions.specs.Floats.{asUsize}
 use Rattle.laws.proofs.WholeFloats.{Whole, total-add}
 use Rattle.floats.proofs.Floor.{whole-exact, floor-is}
 use Rattle.bins.specs.declared.RegularBinEdges.{RegularBinEdges}
-use Rattle.edge_batch.specs.Batch.{quotient, guessOf, isSure, isPast, numberFor, sureNumber}
+use Rattle.edge_batch.specs.Batch.{quotient, guessOf, isSure, isPast, numberFor, sureCut, sureNumber}
 use Rattle.edge_table.proofs.Lookup.{and-true}
 
 -- ---- the test of a guess
@@ -55,15 +55,19 @@ module _ (inside : Bool) (e : RegularBinEdges) (x : Float) where
     unfolding sureNumber
     sure-past t = rw (← er, t)
 
-    -- h is the guess, s what its test answered
-    module _ (t : r ≡ false) (h : ℕ) (eh : h ≡ guessOf (quotient e x)) (s : Bool) (es : s ≡ isSure (quotient e x) h) where
-      pub sure-number : s ≡ true → h ≡ sureNumber inside e x
-      unfolding sureNumber
-      sure-number u = rw (← er, t, ← eh, ← es, u)
+    pub sure-number : (n : ℕ) → r ≡ false → n ≡ sureCut (quotient e x) → n ≡ sureNumber inside e x
+    unfolding sureNumber
+    sure-number n t k = rw (← er, t) k
 
-      pub sure-not : s ≡ false → 2 ^ 64 - 1 ≡ sureNumber inside e x
-      unfolding sureNumber
-      sure-not u = rw (← er, t, ← eh, ← es, u)
+-- h is the guess, s what its test answered
+module _ (q : Float) (h : ℕ) (eh : h ≡ guessOf q) (s : Bool) (es : s ≡ isSure q h) where
+  pub sure-guess : s ≡ true → h ≡ sureCut q
+  unfolding sureCut
+  sure-guess u = rw (← eh, ← es, u)
+
+  pub sure-not : s ≡ false → 2 ^ 64 - 1 ≡ sureCut q
+  unfolding sureCut
+  sure-not u = rw (← eh, ← es, u)
 
 -- ---- a tested guess is the number
 one : Whole (ofBits binary64 0x3ff0_0000_0000_0000) (pos 1)
@@ -80,15 +84,18 @@ sure-whole q h l t =
     let k = and-true (le (ofInt binary64 (pos h)) q) (lt q (add binary64 (ofInt binary64 (pos h)) (ofBits binary64 0x3ff0_0000_0000_0000))) t in
     floor-is q h l (k .0) (subst (λ (y : Float). lt q y ≡ true) (total-add (pos h) (omega arith) one (omega arith)) (k .1))
 
-module _ (inside : Bool) (e : RegularBinEdges) where
-  pub sure-within : (x : Float) → sureNumber inside e x < 8192 → sureNumber inside e x ≡ numberFor inside e x
-  unfolding sureNumber numberFor
-  sure-within x l = go (isPast inside e x) (isSure q (guessOf q)) refl l
-    where
-      q : Float
-      q = quotient e x
+cut-whole : (q : Float) → sureCut q < 8192 → sureCut q ≡ asUsize q
+unfolding sureCut
+cut-whole q = go (isSure q (guessOf q)) refl
+  where
+    go : (s : Bool) → isSure q (guessOf q) ≡ s → cond s (guessOf q) (2 ^ 64 - 1) < 8192 → cond s (guessOf q) (2 ^ 64 - 1) ≡ asUsize q
+    go true t k = sure-whole q (guessOf q) (guess-small q) t
+    go false t k = absurd (omega (arith, k))
 
-      go : (p s : Bool) → isSure q (guessOf q) ≡ s → cond p 4096 (cond s (guessOf q) (2 ^ 64 - 1)) < 8192 → cond p 4096 (cond s (guessOf q) (2 ^ 64 - 1)) ≡ cond p 4096 (asUsize q)
-      go true s t k = refl
-      go false true t k = sure-whole q (guessOf q) (guess-small q) t
-      go false false t k = absurd (omega (arith, k))
+pub sure-within : (inside : Bool) (e : RegularBinEdges) (x : Float) → sureNumber inside e x < 8192 → sureNumber inside e x ≡ numberFor inside e x
+unfolding sureNumber numberFor
+sure-within inside e x = go (isPast inside e x)
+  where
+    go : (p : Bool) → cond p 4096 (sureCut (quotient e x)) < 8192 → cond p 4096 (sureCut (quotient e x)) ≡ cond p 4096 (asUsize (quotient e x))
+    go true k = refl
+    go false k = cut-whole (quotient e x) k

@@ -40,9 +40,12 @@ guessOf q = toBits binary64 (add binary64 q (ofBits binary64 0x41e0_0000_0000_00
 unfoldable pub isSure : Float → ℕ → Bool
 isSure q h = le (ofInt binary64 (pos h)) q && lt q (add binary64 (ofInt binary64 (pos h)) (ofBits binary64 0x3ff0_0000_0000_0000))
 
--- the same where the guess is right, else a mark past every number
+-- the guess where it is right, else a mark past every number
+unfoldable pub sureCut : Float → ℕ
+sureCut q = cond (isSure q (guessOf q)) (guessOf q) (2 ^ 64 - 1)
+
 unfoldable pub sureNumber : Bool → RegularBinEdges → Float → ℕ
-sureNumber inside e x = cond (isPast inside e x) 4096 (cond (isSure (quotient e x) (guessOf (quotient e x))) (guessOf (quotient e x)) (2 ^ 64 - 1))
+sureNumber inside e x = cond (isPast inside e x) 4096 (sureCut (quotient e x))
 
 -- m is at least each
 abbrev pub AtMost : ℕ → List ℕ → Type 0

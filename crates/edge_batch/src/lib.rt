@@ -9,7 +9,7 @@ ghost use Prim.Native.Nat.{_<_};
 ghost use lib.ListN.{length};
 ghost use Rattle.bins.specs.Answers.{indexOf};
 ghost use Rattle.edge_table.specs.Table.{placeOf, sureAt};
-ghost use Rattle.edge_batch.specs.Batch.{numberOr, guessOf, isSure, isPast, numberFor, sureNumber, AtMost, each, sure, settled, settledOr, foundOf};
+ghost use Rattle.edge_batch.specs.Batch.{numberOr, guessOf, isSure, isPast, numberFor, sureCut, sureNumber, AtMost, each, sure, settled, settledOr, foundOf};
 
 fn number_of(bin: BinIndex) -> usize
     ensures { λ r. ⌜ r ≡ numberOr (indexOf bin) ⌝ }
@@ -95,16 +95,20 @@ fn number_for(inside: bool, e: RegularBinEdges, x: f64) -> usize
     floats::as_usize((x - e.min) / e.bin_size)
 }
 
-// The same where a guess is right, else the largest usize.
+// A quotient's whole number where a guess is right, else the largest usize.
+fn sure_cut(q: f64) -> usize
+    ensures { λ r. ⌜ r ≡ sureCut q ⌝ }
+{
+    let h = guess_of(q);
+    if is_sure(q, h) { h } else { usize::MAX }
+}
+
+// The same as number_for where a guess is right. The quotient is made first: what is left is a choice of two numbers, not a branch.
 fn sure_number(inside: bool, e: RegularBinEdges, x: f64) -> usize
     ensures { λ r. ⌜ r ≡ sureNumber inside e x ⌝ }
 {
-    if is_past(inside, e, x) {
-        return 4096;
-    }
-    let q = (x - e.min) / e.bin_size;
-    let h = guess_of(q);
-    if is_sure(q, h) { h } else { usize::MAX }
+    let number = sure_cut((x - e.min) / e.bin_size);
+    if is_past(inside, e, x) { 4096 } else { number }
 }
 
 // A loop of its own, with nothing but arithmetic, goes several values at a time. What it returns is at least each number.

@@ -1,20 +1,20 @@
 -- Each way through the tests of a bin, the search and a hint's trial, and the definition that its answer meets.
 use mathlib.Core.Path.{_≡_, refl, sym, _∙_}
 use mathlib.Core.Option.{Option, some}
-use mathlib.Core.Bool.{Bool, true, false, not, _&&_}
+use mathlib.Core.Bool.{Bool, true, false, _&&_}
 use mathlib.Core.List.{List}
-use Prim.Native.Nat.{ℕ, _+_, _-_, _*_, _%_, _^_, _<_, _≤_}
+use Prim.Native.Nat.{ℕ, _+_, _-_, _*_, _/_, _%_, _^_, _<_, _≤_}
 use native.Mathlib.Omega.{arith}
 use lib.Dec.{ltb}
 use lib.ListN.{length, getD}
-use lib.Ieee.{Float, binary64, add, mul, lt, le, isNan, toBits}
+use lib.Ieee.{Float, binary64, add, mul, lt, le, eq, isNan, ofBits, toBits}
 use borrow.Author.Tests.{lt-ltb, le-ltb, le-leb, lt-leb, eq-eqb, ne-eqb}
 use Rattle.definitions.specs.Lists.{at}
 use Rattle.floats.specs.Order.{orderKey}
 use Rattle.reducer.specs.declared.BuiltEdges.the-variants.{Irregular}
 use Rattle.reducer.specs.Consume.{builtBin}
 use Rattle.edge_table.specs.declared.Table.{Table}
-use Rattle.edge_table.specs.Table.{bit, endOf, enclosed, nonzero, holds, stepUp, climb, located, locatedBin, outsideOf, placeOf, nearHint, sureAt}
+use Rattle.edge_table.specs.Table.{bit, endOf, enclosed, nonzero, holds, stepUp, climb, located, locatedBin, flagOf, pastEnd, placeOf, nearHint, sureAt}
 use Rattle.edge_table.proofs.Order.{le-not, lt-le}
 
 -- ---- the tests of a bin
@@ -102,37 +102,33 @@ module _ (list : List Float) (x t : Float) (h : ℕ) (e : t ≡ at list h) where
   unfolding nearHint
   near-above w l r = rw (← e, l, r)
 
--- ---- a value's place; r is the answer of `is_outside`, b of `to_bits`
+-- ---- a value's place
 module _ (inside : Bool) (table : Table) (x : Float) where
-  pub place-outside : (r : Bool) → not inside ≡ true → r ≡ outsideOf table x → r ≡ true → 4096 ≡ placeOf inside table x
+  pub past-never : inside ≡ true → 0 ≡ pastEnd inside table x
+  unfolding pastEnd
+  past-never i = rw i
+
+  -- r is the answer of `flag`
+  pub past-is : (r : ℕ) → inside ≡ false → r ≡ flagOf (table .first) (table .last) x → 1 - r ≡ pastEnd inside table x
+  unfolding pastEnd
+  past-is r i q = rw (i, q)
+
+  -- b is the answer of `to_bits`, r of `past_end`
+  pub place-is : (b r : ℕ) → b ≡ toBits binary64 (add binary64 (mul binary64 x (table .scale)) (table .offset)) → r ≡ pastEnd inside table x
+      → b % 4096 + (4096 * r + 8192 * bit (eq x (ofBits binary64 0))) ≡ placeOf inside table x
   unfolding placeOf
-  place-outside r i q t = rw (i, ← q, t)
-
-  module _ (w : (not inside && outsideOf table x) ≡ false) where
-    pub place-zero : nonzero x ≡ false → 2 ^ 64 - 1 ≡ placeOf inside table x
-    unfolding placeOf
-    place-zero z = rw (w, z)
-
-    pub place-is : (b : ℕ) → nonzero x ≡ true → b ≡ toBits binary64 (add binary64 (mul binary64 x (table .scale)) (table .offset)) → b % 4096 ≡ placeOf inside table x
-    unfolding placeOf
-    place-is b z e = rw (w, z, e)
-
-  pub known-inside : not inside ≡ false → (not inside && outsideOf table x) ≡ false
-  known-inside i = rw i
-
-  pub found-inside : (r : Bool) → not inside ≡ true → r ≡ outsideOf table x → r ≡ false → (not inside && outsideOf table x) ≡ false
-  found-inside r i q t = rw (i, ← q, t)
+  place-is b r e q = rw (e, q)
 
 -- ---- a hint's trial; m is the answer of `end_of`
 module _ (list : List Float) (hints : List ℕ) (x : Float) (p m : ℕ) (e : m ≡ endOf 4096 (length hints)) where
   module _ (l : m ≤ p) where
-    pub sure-none : p ≡ 4096 → 4096 ≡ sureAt list hints x p
+    pub sure-none : p / 4096 ≡ 1 → 4096 ≡ sureAt list hints x p
     unfolding sureAt
-    sure-none q = rw (← e, le-ltb p m l, eq-eqb p 4096 q)
+    sure-none q = rw (← e, le-ltb p m l, eq-eqb (p / 4096) 1 q)
 
-    pub sure-unplaced : (p ≡ 4096 → ⊥) → 2 ^ 64 - 1 ≡ sureAt list hints x p
+    pub sure-unplaced : (p / 4096 ≡ 1 → ⊥) → 2 ^ 64 - 1 ≡ sureAt list hints x p
     unfolding sureAt
-    sure-unplaced q = rw (← e, le-ltb p m l, ne-eqb p 4096 q)
+    sure-unplaced q = rw (← e, le-ltb p m l, ne-eqb (p / 4096) 1 q)
 
   module _ (k : p < m) where
     -- g is the answer of `near_hint`, s of `is_enclosed`

@@ -3,7 +3,7 @@ use mathlib.Core.Path.{_≡_, refl, sym, ap, _∙_}
 use mathlib.Core.Option.{Option, none}
 use mathlib.Core.Bool.{Bool, true, false, cond}
 use mathlib.Core.List.{List}
-use Prim.Native.Nat.{ℕ, suc, _+_, _-_, _*_, _/_, _%_, _^_, _<_, _≤_}
+use Prim.Native.Nat.{ℕ, suc, _+_, _-_, _*_, _/_, _%_, _^_, _<_, _≤_, zero-le}
 use native.Mathlib.Nat.{le-refl, zero-mul, one-mul}
 use native.Mathlib.Numerals.{add-one}
 use native.Mathlib.Omega.{arith}
@@ -113,6 +113,17 @@ module _ (b : ℕ) (h : b ≤ 2 ^ 64 - 1) where
       go false e =
           let l : 2 ^ 63 ≤ b = ltb-false b (2 ^ 63) e in
           omega (arith, taken-minus l, key-minus x (omega arith))
+
+-- ---- bits
+pub bit-le : (t : Bool) → bit t ≤ 1
+bit-le true = le-refl 1
+bit-le false = zero-le
+
+pub bits-le : (a b : Bool) → (1 - bit a) * (1 - bit b) ≤ 1
+bits-le true true = zero-le
+bits-le true false = zero-le
+bits-le false true = zero-le
+bits-le false false = le-refl 1
 
 pub bit-times : (w : ℕ) (t : Bool) → w * bit t ≤ w
 bit-times w true = omega arith

@@ -2,10 +2,10 @@
 use mathlib.Core.Option.{Option, none, some}
 use mathlib.Core.List.{List}
 use mathlib.Core.Bool.{Bool, true, false, cond, not, _&&_, _||_}
-use Prim.Native.Nat.{ℕ, zero, suc, _+_, _-_, _*_, _%_, _^_}
+use Prim.Native.Nat.{ℕ, zero, suc, _+_, _-_, _*_, _/_, _%_, _^_}
 use lib.Dec.{leb, ltb, eqb}
 use lib.ListN.{length, getD, set}
-use lib.Ieee.{Float, binary64, add, sub, mul, div, lt, le, ne, isNan, ofBits, toBits}
+use lib.Ieee.{Float, binary64, add, sub, mul, div, lt, le, eq, ne, isNan, ofBits, toBits}
 use Rattle.definitions.specs.Lists.{at}
 use Rattle.floats.specs.Order.{orderKey}
 use Rattle.reducer.specs.declared.BuiltEdges.{BuiltEdges}
@@ -96,20 +96,28 @@ tableBin (Regular e) list table x = builtBin (Regular e) list x
 tableBin Irregular list table x = edgeBin list table x
 
 -- ---- hints tried
--- a value's place of hints; 4096 past the ends, unless no value is; a mark past every place for a zero
+-- 1 where the value is past no end, else 0
+abbrev pub flagOf : Float → Float → Float → ℕ
+flagOf first last x = (1 - bit (lt x first)) * (1 - bit (le last x))
+
+-- 1 where it is past one, unless no value is
+unfoldable pub pastEnd : Bool → Table → Float → ℕ
+pastEnd inside table x = cond inside 0 (1 - flagOf (table .first) (table .last) x)
+
+-- a value's place of hints, 4,096 more past the ends, and 8,192 more for a zero
 unfoldable pub placeOf : Bool → Table → Float → ℕ
 placeOf inside table x =
-    cond (not inside && outsideOf table x) 4096 (cond (nonzero x) (toBits binary64 (add binary64 (mul binary64 x (table .scale)) (table .offset)) % 4096) (2 ^ 64 - 1))
+    toBits binary64 (add binary64 (mul binary64 x (table .scale)) (table .offset)) % 4096 + (4096 * pastEnd inside table x + 8192 * bit (eq x (ofBits binary64 0)))
 
 -- h, or the bin beside it to which the value points
 unfoldable pub nearHint : List Float → Float → ℕ → ℕ
 nearHint list x h = cond (lt x (at list h)) (h - 1) (h + stepUp list x (h + 1) 1)
 
--- the hint at place p or the bin beside it, where the edges enclose the value; 4096 stays, and all else is a mark past every bin
+-- the hint at place p or the bin beside it, where the edges enclose the value; 4096 for one past an end, and all else is a mark past every bin
 unfoldable pub sureAt : List Float → List ℕ → Float → ℕ → ℕ
 sureAt list hints x p =
     let g = nearHint list x (getD hints p 0) in
-    cond (ltb p (endOf 4096 (length hints))) (cond (enclosed list x g) g (2 ^ 64 - 1)) (cond (eqb p 4096) 4096 (2 ^ 64 - 1))
+    cond (ltb p (endOf 4096 (length hints))) (cond (enclosed list x g) g (2 ^ 64 - 1)) (cond (eqb (p / 4096) 1) 4096 (2 ^ 64 - 1))
 
 -- ---- value edges, which a histogram has
 abbrev pub noTable : Table

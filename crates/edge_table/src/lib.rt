@@ -8,7 +8,7 @@ ghost use lib.ListN.{length};
 ghost use Rattle.definitions.specs.Lists.{at};
 ghost use Rattle.floats.specs.Order.{orderKey};
 ghost use Rattle.bins.specs.Answers.{indexOf};
-ghost use Rattle.edge_table.specs.Table.{tableOf, placeOf, edgePlace, endOf, spread, binHinted, hintsOf, hintsFor, outsideOf, edgeBin, tableBin, noTable, valueTableOf, valueHintsFor, enclosed, holds, stepUp, climb, located, locatedBin, nearHint, sureAt};
+ghost use Rattle.edge_table.specs.Table.{tableOf, placeOf, edgePlace, endOf, spread, binHinted, hintsOf, hintsFor, outsideOf, edgeBin, tableBin, noTable, valueTableOf, valueHintsFor, enclosed, holds, stepUp, climb, located, locatedBin, flagOf, pastEnd, nearHint, sureAt};
 
 // Ends of the edges; a value's place of hints is scale times it plus offset.
 pub struct Table {
@@ -239,20 +239,30 @@ pub fn bin_of(edges: BuiltEdges, list: &[f64], table: Table, value: f64) -> BinI
 
 // ---- hints tried
 
-// A value's place of hints. 4096 past the ends, unless it is known that no value is; the largest usize for a zero, since two zeros that compare equal may stand on two sides of an edge.
+// 1 where the value is past no end, else 0; without a branch on the value.
+pub fn flag(table: Table, value: f64) -> usize
+    ensures { λ r. ⌜ (r ≡ flagOf (table .first) (table .last) value) × (r ≤ 1) ⌝ }
+{
+    (1 - ((value < table.first) as usize)) * (1 - ((table.last <= value) as usize))
+}
+
+// 1 where it is past one, unless it is known that no value is.
+fn past_end(inside: bool, table: Table, value: f64) -> usize
+    ensures { λ r. ⌜ (r ≡ pastEnd inside table value) × (r ≤ 1) ⌝ }
+{
+    if inside {
+        return 0;
+    }
+    1 - flag(table, value)
+}
+
+// A value's place of hints, 4,096 more past the ends, and 8,192 more for a zero, since two zeros that compare equal may stand on two sides of an edge.
 pub fn place_of(inside: bool, table: Table, value: f64) -> usize
     ensures { λ r. ⌜ r ≡ placeOf inside table value ⌝ }
 {
-    if !inside {
-        if is_outside(table, value) {
-            return 4096;
-        }
-    }
-    if value != 0.0 {
-        let x = value * table.scale + table.offset;
-        return (floats::to_bits(x) % 4096) as usize;
-    }
-    usize::MAX
+    let x = value * table.scale + table.offset;
+    let p = (floats::to_bits(x) % 4096) as usize;
+    p + (4096 * past_end(inside, table, value) + 8192 * ((value == 0.0) as usize))
 }
 
 // h, or the bin beside it to which the value points.
@@ -267,12 +277,12 @@ fn near_hint(list: &[f64], x: f64, h: usize) -> usize
     h + step_up(list, x, h + 1, 1)
 }
 
-// The bin of the hint at place p or the one beside it where the edges enclose the value, in most lookups by the first way out; 4096 stays, and all else is the largest usize.
+// The bin of the hint at place p or the one beside it where the edges enclose the value, in most lookups by the first way out; 4096 for one past an end, and all else is the largest usize.
 pub fn sure_at(list: &[f64], hints: &[u8], x: f64, p: usize) -> usize
     ensures { λ r. ⌜ r ≡ sureAt (now (list .entry)) (now (hints .entry)) x p ⌝ }
 {
     if p >= end_of(4096, hints.len()) {
-        return if p == 4096 { 4096 } else { usize::MAX };
+        return if p / 4096 == 1 { 4096 } else { usize::MAX };
     }
     let h = hints[p] as usize;
     let n = reducer::n_bins(BuiltEdges::Irregular, list.len());

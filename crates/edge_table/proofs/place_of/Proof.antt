@@ -1,37 +1,56 @@
-use mathlib.Core.Logic.{⊎-elim}
-use Rattle.edge_table.proofs.Tests.{place-outside, place-is, place-zero, known-inside, found-inside}
+use native.Mathlib.Omega.{arith}
+use lib.Ieee as Ieee
+use Rattle.edge_table.proofs.Ways.{bit-le}
+use Rattle.edge_table.proofs.Tests.{place-is}
 use borrow.Author.Needs.{needs}
 use Rattle.edge_table.proofs.place_of.Statement.{statement}
 use Rattle.edge_table.proofs.place_of.Tie as tie
 use Rattle.edge_table.proofs.place_of.Reads as reads
 use Rattle.edge_table.proofs.place_of.Lts as lts
-use Rattle.edge_table.proofs.is_outside.Reads as is-outside-reads
+use Rattle.edge_table.proofs.past_end.Reads as past-end-reads
 use Rattle.floats.proofs.to_bits.Reads as to-bits-reads
 
--- src/lib.rt:247:12
-is-outside-requires : tie.Need-is-outside-requires
-is-outside-requires c κs = search needs
-
--- src/lib.rt:248:13
-returns : tie.Need-returns
-returns c = search place-outside
-
--- src/lib.rt:253:17
+-- src/lib.rt:264:14
 to-bits-requires : tie.Need-to-bits-requires
 to-bits-requires c κs = search needs
 
--- src/lib.rt:253:9
-returns-2 : tie.Need-returns-2
-returns-2 c =
-    let a = c .before .before .before .before .before .args in
-    place-is _ _ _ (⊎-elim (λ w. found-inside (a .inside) (a .table) (a .value) _ (w .0 .taken) (w .1 .ensures) (w .2 .left)) (λ w. known-inside (a .inside) (a .table) (a .value) (w .left)) (c .before .before .before .before .if1 .came)) _ (c .before .before .before .if3 .taken) (c .to-bits .ensures)
+-- src/lib.rt:265:17
+past-end-requires : tie.Need-past-end-requires
+past-end-requires c κs = search needs
 
--- src/lib.rt:243:1
-returns-3 : tie.Need-returns-3
-returns-3 c =
-    let a = c .before .before .args in
-    place-zero _ _ _ (⊎-elim (λ w. found-inside (a .inside) (a .table) (a .value) _ (w .0 .taken) (w .1 .ensures) (w .2 .left)) (λ w. known-inside (a .inside) (a .table) (a .value) (w .left)) (c .before .if1 .came)) (c .if3 .left)
+-- src/lib.rt:265:10
+mul-result : tie.Need-mul-result
+mul-result c = search needs
+
+-- src/lib.rt:265:58
+cast-result : tie.Need-cast-result
+cast-result c = search needs
+
+-- src/lib.rt:265:50
+mul-result-2 : tie.Need-mul-result-2
+mul-result-2 c = omega (arith, bit-le (Ieee.eq (c .before .before .before .before .args .value) (Ieee.ofBits Ieee.binary64 0)))
+
+-- src/lib.rt:265:10
+add-result : tie.Need-add-result
+add-result c = omega (arith, c .past-end .ensures .1, bit-le (Ieee.eq (c .before .before .before .before .args .value) (Ieee.ofBits Ieee.binary64 0)))
+
+-- src/lib.rt:265:5
+add-result-2 : tie.Need-add-result-2
+add-result-2 c = omega (arith, c .past-end .ensures .1, bit-le (Ieee.eq (c .before .before .before .before .args .value) (Ieee.ofBits Ieee.binary64 0)))
+
+-- src/lib.rt:260:1
+returns : tie.Need-returns
+returns c = search place-is
 
 pub place-of-spec : {M : Type 1} → statement M
 place-of-spec =
-    tie.close (tie.spec is-outside-requires returns to-bits-requires returns-2 returns-3)
+    tie.close
+    (tie.spec
+    to-bits-requires
+    past-end-requires
+    mul-result
+    cast-result
+    mul-result-2
+    add-result
+    add-result-2
+    returns)
