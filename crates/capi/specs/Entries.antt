@@ -7,8 +7,8 @@ use lib.Dec.{eqb}
 use lib.ListN.{length}
 use lib.IntN.{ℤ}
 use lib.Ieee.{Float}
-use Rattle.state.specs.declared.StateKind.{StateKind}
-use Rattle.state.specs.declared.StateKind.the-variants.{Mean, Histogram}
+use Rattle.state_refusals.specs.declared.StateKind.{StateKind}
+use Rattle.state_refusals.specs.declared.StateKind.the-variants.{Mean, Histogram}
 use Rattle.reducer.specs.declared.PairOperation.{PairOperation}
 use Rattle.reducer.specs.declared.PairOperation.the-variants.{ElementwiseMultiply, ElementwiseSub}
 use Rattle.reducer.specs.declared.Edges.{Edges}

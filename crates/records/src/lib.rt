@@ -37,7 +37,7 @@ fn edges_refusal(edges: &[u8]) -> u32
     let n = edges.len() / EDGE_BYTES;
     let mut list = edge_numbers();
     record_bytes::decode_edges(edges, &mut list);
-    parallel_serial::edges_refusal(Edges::Irregular, &list[..n])
+    run_refusals::edges_refusal(Edges::Irregular, &list[..n])
 }
 
 // 7; 27, points first; points; edges.
@@ -102,7 +102,7 @@ fn run(positions: &[f64], values: &[f64], weights: &[f64], n: usize, list: &[f64
         stride: Stride::Given(n),
     };
     let shape = Shape {
-        n_states: parallel_serial::n_bins(Edges::Irregular, list),
+        n_states: run_refusals::n_bins(Edges::Irregular, list),
         state_size: 2,
         members: 1,
         teams: 1,
