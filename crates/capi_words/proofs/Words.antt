@@ -15,12 +15,9 @@ use Rattle.bins.specs.Answers.{lookupNumber, lookupResult}
 use Rattle.misc.specs.declared.Segment.{Segment}
 use Rattle.misc.specs.declared.Segment.the-variants as segment
 use Rattle.misc.specs.Segment.{segmentNumber, segmentBounds}
-use Rattle.state.specs.declared.Outcome.{Outcome}
-use Rattle.state.specs.declared.Outcome.the-variants.{Done, Refused}
-use Rattle.state.specs.Readings.{numberOf}
 use Rattle.reducer.specs.declared.Edges.{Edges}
 use Rattle.reducer.specs.declared.Kind.the-variants.{Comp0Mean, ComponentSumMean, ComponentSumHistogram}
-use Rattle.capi.specs.Entries.{kindFrom, written, lookupWords, segmentWords}
+use Rattle.capi_words.specs.Words.{kindFrom, orZero, written, lookupWords, segmentWords}
 
 -- ---- one of two, by a number
 pub first-of : {A : Type 0} (n k : ℕ) (a b : A) → n ≡ k → a ≡ cond (eqb n k) a b
@@ -30,10 +27,6 @@ pub second-of : {A : Type 0} (n k : ℕ) (a b : A) → (n ≡ k → ⊥) → b �
 second-of n k a b h = rw (ne-eqb n k h)
 
 -- ---- the number of an answer
-abbrev orZero : Option ℕ → ℕ
-orZero none = 0
-orZero (some n) = n
-
 met-number : (n : ℕ) → orZero (met n) ≡ n
 met-number n = go (eqb n 0) refl
   where
@@ -41,11 +34,8 @@ met-number n = go (eqb n 0) refl
     go true e = sym (eqb-true n 0 e)
     go false e = refl
 
-pub done-number : (a : Outcome) → a ≡ Done → (n : ℕ) → numberOf a ≡ met n → 0 ≡ n
-done-number a e n h = ap (λ (o : Outcome). orZero (numberOf o)) (sym e) ∙ ap orZero h ∙ met-number n
-
-pub refused-number : (a : Outcome) (x : ℕ) → a ≡ Refused x → (n : ℕ) → numberOf a ≡ met n → x ≡ n
-refused-number a x e n h = ap (λ (o : Outcome). orZero (numberOf o)) (sym e) ∙ ap orZero h ∙ met-number n
+pub said : (x n : ℕ) (o : Option ℕ) → x ≡ orZero o → o ≡ met n → x ≡ n
+said x n o e h = e ∙ ap orZero h ∙ met-number n
 
 -- ---- three words
 pub three-stored : (a b c : ℕ) (l : List ℕ) → length l ≡ 3 → set (set (set l 0 a) 1 b) 2 c ≡ written (a ∷ b ∷ c ∷ []) l
