@@ -15,7 +15,7 @@ use Rattle.definitions.specs.Rules.{Rule, refusal, pointRules, irregularRules, 
 use Rattle.definitions.specs.Records.{floatAt, column, recordPoints, recordEdges, curveBins, curveRules}
 use Rattle.record_bytes.specs.Stores.{stored}
 use Rattle.record_bytes.specs.Columns.{numbers, edgesRead}
-use Rattle.records.specs.Answers.{curveNumber}
+use Rattle.record_refusals.specs.Answers.{curveNumber}
 use Rattle.record_bytes.proofs.Stores.{same-stored, stored-take}
 use Rattle.record_bytes.proofs.Columns.{numbers-length}
 use Rattle.record_bytes.proofs.Files.{edges-read}

@@ -1,7 +1,7 @@
-use Rattle.records.proofs.Rules.{points-over, edges-over, points-cut, edges-cut, no-points, then-edges}
+use Rattle.record_refusals.proofs.Rules.{points-over, edges-over, points-cut, edges-cut, no-points, then-edges}
 use borrow.Author.Needs.{needs}
-use Rattle.records.proofs.curve_refusal.Statement.{statement}
-use Rattle.records.proofs.curve_refusal.Tie as tie
+use Rattle.record_refusals.proofs.curve_refusal.Statement.{statement}
+use Rattle.record_refusals.proofs.curve_refusal.Tie as tie
 
 mul-if1 : tie.Need-mul-if1
 mul-if1 c = search needs

@@ -1,9 +1,9 @@
 use native.Mathlib.Omega.{arith}
 use lib.ListN.{length-take}
-use Rattle.records.proofs.Rules.{edges-number}
+use Rattle.record_refusals.proofs.Rules.{edges-number}
 use borrow.Author.Needs.{needs}
-use Rattle.records.proofs.edges_refusal.Statement.{statement}
-use Rattle.records.proofs.edges_refusal.Tie as tie
+use Rattle.record_refusals.proofs.edges_refusal.Statement.{statement}
+use Rattle.record_refusals.proofs.edges_refusal.Tie as tie
 
 edge-numbers-requires : tie.Need-edge-numbers-requires
 edge-numbers-requires c κs = search needs
