@@ -60,7 +60,7 @@ pub extern "C" fn pairstat_regular_bin_index(
     ensures { λ _. ⌜ now (out .exit) ≡ written (lookupWords (refusal (edgesCallRules (regular min max «n_bins»)))
         (ifAccepted (edgesCallRules (regular min max «n_bins»)) (some (find (regular min max «n_bins») value)) none)) (now (out .entry)) ⌝ }
 {
-    capi_words::write_lookup(bins::regular_bin_index(min, max, n_bins, value), out);
+    capi_words::write_lookup(bin_lookups::regular_bin_index(min, max, n_bins, value), out);
 }
 
 #[no_mangle]
@@ -68,7 +68,7 @@ pub extern "C" fn pairstat_irregular_bin_index(edges: &[f64], value: f64, out: &
     ensures { λ _. ⌜ now (out .exit) ≡ written (lookupWords (refusal (edgesCallRules (irregular (now (edges .entry)))))
         (ifAccepted (edgesCallRules (irregular (now (edges .entry)))) (some (find (irregular (now (edges .entry))) value)) none)) (now (out .entry)) ⌝ }
 {
-    capi_words::write_lookup(bins::irregular_bin_index(edges, value), out);
+    capi_words::write_lookup(bin_lookups::irregular_bin_index(edges, value), out);
 }
 
 #[no_mangle]

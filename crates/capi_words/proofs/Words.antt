@@ -9,9 +9,9 @@ use lib.Dec.{eqb}
 use lib.ListN.{length, set}
 use borrow.Author.Tests.{eq-eqb, ne-eqb, eqb-true}
 use Rattle.definitions.specs.Rules.{met}
-use Rattle.bins.specs.declared.Lookup.{Lookup}
-use Rattle.bins.specs.declared.Lookup.the-variants as lookup
-use Rattle.bins.specs.Answers.{lookupNumber, lookupResult}
+use Rattle.bin_lookups.specs.declared.Lookup.{Lookup}
+use Rattle.bin_lookups.specs.declared.Lookup.the-variants as lookup
+use Rattle.bin_lookups.specs.Answers.{lookupNumber, lookupResult}
 use Rattle.misc.specs.declared.Segment.{Segment}
 use Rattle.misc.specs.declared.Segment.the-variants as segment
 use Rattle.misc.specs.Segment.{segmentNumber, segmentBounds}

@@ -1,5 +1,5 @@
 // What the numbers of a flat call stand for, and answers as numbers and words.
-use bins::Lookup;
+use bin_lookups::Lookup;
 use misc::Segment;
 use reducer::Edges;
 use reducer::Kind;
@@ -9,7 +9,7 @@ use state::StateKind;
 use unstructured_points::Stride;
 ghost use mathlib.Core.Path.{_≡_};
 ghost use mathlib.Core.List.{[], _∷_};
-ghost use Rattle.bins.specs.Answers.{lookupNumber, lookupResult};
+ghost use Rattle.bin_lookups.specs.Answers.{lookupNumber, lookupResult};
 ghost use Rattle.misc.specs.Segment.{segmentNumber, segmentBounds};
 ghost use Rattle.state.specs.Readings.{numberOf};
 ghost use Rattle.capi_words.specs.Words.{edgesFrom, kindFrom, opFrom, strideFrom, stateKindFrom, orZero, written, lookupWords, segmentWords};

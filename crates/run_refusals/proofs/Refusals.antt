@@ -19,9 +19,10 @@ use Rattle.definitions.specs.Rules.{rule, refusal, overState, overPack, edgeRul
 use Rattle.laws.proofs.Refusals.{orElse}
 use Rattle.bins.specs.declared.RegularNew.{RegularNew}
 use Rattle.bins.specs.declared.RegularNew.the-variants as new
-use Rattle.bins.specs.declared.Validated.{Validated}
-use Rattle.bins.specs.declared.Validated.the-variants as valid
-use Rattle.bins.specs.Answers.{newNumber, validNumber}
+use Rattle.edge_validation.specs.declared.Validated.{Validated}
+use Rattle.edge_validation.specs.declared.Validated.the-variants as valid
+use Rattle.bins.specs.Answers.{newNumber}
+use Rattle.edge_validation.specs.Answers.{validNumber}
 use Rattle.state_refusals.proofs.Refusals.{kind-over}
 use Rattle.reducer.specs.declared.Edges.{Edges}
 use Rattle.reducer.specs.declared.Edges.the-variants.{Regular, Irregular}

@@ -1,7 +1,7 @@
 // The refusals of a run, by its edges, its kind and its shape, and by what its points or blocks say of themselves.
 use bins::RegularBinEdges;
 use bins::RegularNew;
-use bins::Validated;
+use edge_validation::Validated;
 use parallel_serial::Shape;
 use reducer::Edges;
 use reducer::Kind;
@@ -70,7 +70,7 @@ pub fn edges_refusal(edges: Edges, list: &[f64]) -> u32
             RegularNew::Made(_) => 0,
             RegularNew::Refused(number) => number,
         },
-        Edges::Irregular => match bins::validate_bin_edges(list) {
+        Edges::Irregular => match edge_validation::validate_bin_edges(list) {
             Validated::Accepted => 0,
             Validated::Refused(number) => number,
         },

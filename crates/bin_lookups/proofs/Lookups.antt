@@ -11,16 +11,18 @@ use lib.Ieee.{Float}
 use borrow.Author.Tests.{eq-eqb, eqb-true}
 use Rattle.definitions.specs.Bins.{Edges, regular, irregular, regularIndex, irregularIndex, find}
 use Rattle.definitions.specs.Rules.{refusal, ifAccepted, edgesCallRules, overEdges, allFinite, increasing}
 use Rattle.bins.specs.declared.RegularBinEdges.{RegularBinEdges}
 use Rattle.bins.specs.declared.RegularNew.{RegularNew}
 use Rattle.bins.specs.declared.RegularNew.the-variants as new
 use Rattle.bins.specs.declared.BinIndex.{BinIndex}
 use Rattle.bins.specs.declared.BinIndex.the-variants as index
-use Rattle.bins.specs.declared.Validated.{Validated}
-use Rattle.bins.specs.declared.Validated.the-variants as valid
-use Rattle.bins.specs.declared.Lookup.{Lookup}
-use Rattle.bins.specs.declared.Lookup.the-variants as lookup
-use Rattle.bins.specs.Answers.{regularOf, newNumber, newEdges, indexOf, validNumber, validAccepted, lookupNumber, lookupResult}
+use Rattle.edge_validation.specs.declared.Validated.{Validated}
+use Rattle.edge_validation.specs.declared.Validated.the-variants as valid
+use Rattle.bin_lookups.specs.declared.Lookup.{Lookup}
+use Rattle.bin_lookups.specs.declared.Lookup.the-variants as lookup
+use Rattle.bins.specs.Answers.{regularOf, newNumber, newEdges, indexOf}
+use Rattle.edge_validation.specs.Answers.{validNumber, validAccepted}
+use Rattle.bin_lookups.specs.Answers.{lookupNumber, lookupResult}
 
 module _ (b : BinIndex) where
   pub found-at : (i : ℕ) → b ≡ index.At i → lookupResult (lookup.At i) ≡ some (indexOf b)

@@ -2,9 +2,9 @@ use Prim.Native.Nat.{_≤_, _-_}
 use native.Mathlib.Omega.{arith}
 use lib.ListN.{length}
 use borrow.Author.Needs.{needs}
 use Rattle.bins.proofs.Irregular.{AtMost, Above, halves-up, halves-down, halves-none, halves-at}
-use Rattle.bins.proofs.last_by_halves.Statement.{statement}
-use Rattle.bins.proofs.last_by_halves.Tie as tie
+use Rattle.bin_lookups.proofs.last_by_halves.Statement.{statement}
+use Rattle.bin_lookups.proofs.last_by_halves.Tie as tie
 
 abbrev Inv-loop : tie.InvT-loop
 Inv-loop edges value key lo₀ hi₀ lo hi = (lo ≤ hi) × (hi ≤ length edges) × AtMost edges value lo × Above edges value hi

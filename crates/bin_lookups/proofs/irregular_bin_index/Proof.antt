@@ -1,7 +1,7 @@
-use Rattle.bins.proofs.Lookups.{valid-number, irregular-refused, ready-finite, ready-increasing, irregular-number, irregular-found}
+use Rattle.bin_lookups.proofs.Lookups.{valid-number, irregular-refused, ready-finite, ready-increasing, irregular-number, irregular-found}
 use borrow.Author.Needs.{needs}
-use Rattle.bins.proofs.irregular_bin_index.Statement.{statement}
-use Rattle.bins.proofs.irregular_bin_index.Tie as tie
+use Rattle.bin_lookups.proofs.irregular_bin_index.Statement.{statement}
+use Rattle.bin_lookups.proofs.irregular_bin_index.Tie as tie
 
 validate-bin-edges-requires : tie.Need-validate-bin-edges-requires
 validate-bin-edges-requires c κs = search needs

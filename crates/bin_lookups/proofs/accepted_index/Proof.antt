@@ -1,7 +1,7 @@
 use Rattle.bins.proofs.Irregular.{index-outside, index-inside}
 use borrow.Author.Needs.{needs}
-use Rattle.bins.proofs.accepted_index.Statement.{statement}
-use Rattle.bins.proofs.accepted_index.Tie as tie
+use Rattle.bin_lookups.proofs.accepted_index.Statement.{statement}
+use Rattle.bin_lookups.proofs.accepted_index.Tie as tie
 
 outside-requires : tie.Need-outside-requires
 outside-requires c κs = search needs

@@ -2,53 +2,38 @@ use mathlib.Core.Path.{sym, subst, _∙_}
 use lib.Dec.{T}
 use native.Mathlib.Omega.{arith}
 use Rattle.floats.proofs.Choice.{told}
-use Rattle.bins.proofs.Irregular.{valid-7, valid-12, valid-10, valid-13, valid-accepted}
+use Rattle.edge_validation.proofs.Validation.{valid-7, valid-12, valid-10, valid-13, valid-accepted}
 use borrow.Author.Needs.{needs}
-use Rattle.bins.proofs.validate_bin_edges.Statement.{statement}
-use Rattle.bins.proofs.validate_bin_edges.Tie as tie
-use Rattle.bins.proofs.validate_bin_edges.Reads as reads
-use Rattle.bins.proofs.validate_bin_edges.Lts as lts
-use Rattle.bins.proofs.all_finite.Reads as all-finite-reads
-use Rattle.bins.proofs.has_finite_ends.Reads as has-finite-ends-reads
-use Rattle.bins.proofs.is_increasing.Reads as is-increasing-reads
+use Rattle.edge_validation.proofs.validate_bin_edges.Statement.{statement}
+use Rattle.edge_validation.proofs.validate_bin_edges.Tie as tie
 
--- src/lib.rt:164:22
 add-if1 : tie.Need-add-if1
 add-if1 c = search needs
 
--- src/lib.rt:165:9
 returns : tie.Need-returns
 returns c = valid-7 _ (search)
 
--- src/lib.rt:168:9
 returns-2 : tie.Need-returns-2
 returns-2 c = valid-12 _ (search) (search)
 
--- src/lib.rt:170:8
 is-increasing-requires : tie.Need-is-increasing-requires
 is-increasing-requires c κs = search needs
 
--- src/lib.rt:171:12
 has-finite-ends-requires : tie.Need-has-finite-ends-requires
 has-finite-ends-requires c κs = (omega (arith, c .before .before .if2 .left), subst T (sym (sym (c .before .is-increasing .ensures) ∙ c .if3 .taken)) tt)
 
--- src/lib.rt:172:13
 returns-3 : tie.Need-returns-3
 returns-3 c = valid-accepted _ (search) (search) (search told) (search told)
 
--- src/lib.rt:174:9
 returns-4 : tie.Need-returns-4
 returns-4 c = valid-10 _ (search) (search) (search told)
 
--- src/lib.rt:176:8
 all-finite-requires : tie.Need-all-finite-requires
 all-finite-requires c κs = search needs
 
--- src/lib.rt:177:9
 returns-5 : tie.Need-returns-5
 returns-5 c = valid-13 _ (search) (search) (search told) (search told)
 
--- src/lib.rt:160:1
 returns-6 : tie.Need-returns-6
 returns-6 c = valid-10 _ (search) (search) (search told)
 

@@ -1,7 +1,7 @@
-use Rattle.bins.proofs.Lookups.{new-number, regular-refused, regular-number, regular-found}
+use Rattle.bin_lookups.proofs.Lookups.{new-number, regular-refused, regular-number, regular-found}
 use borrow.Author.Needs.{needs}
-use Rattle.bins.proofs.regular_bin_index.Statement.{statement}
-use Rattle.bins.proofs.regular_bin_index.Tie as tie
+use Rattle.bin_lookups.proofs.regular_bin_index.Statement.{statement}
+use Rattle.bin_lookups.proofs.regular_bin_index.Tie as tie
 
 new-requires : tie.Need-new-requires
 new-requires c κs = search needs

@@ -4,9 +4,9 @@ use native.Mathlib.Omega.{arith}
 use lib.ListN.{length, drop}
 use borrow.Author.Needs.{needs}
 use Rattle.definitions.specs.Rules.{increasing}
-use Rattle.bins.proofs.Irregular.{rising-again, rising-stop, rising-done}
-use Rattle.bins.proofs.is_increasing.Statement.{statement}
-use Rattle.bins.proofs.is_increasing.Tie as tie
+use Rattle.edge_validation.proofs.Validation.{rising-again, rising-stop, rising-done}
+use Rattle.edge_validation.proofs.is_increasing.Statement.{statement}
+use Rattle.edge_validation.proofs.is_increasing.Tie as tie
 
 abbrev Inv-loop : tie.InvT-loop
 Inv-loop edges i₀ i = (1 ≤ i) × (increasing edges ≡ increasing (drop (i - 1) edges))

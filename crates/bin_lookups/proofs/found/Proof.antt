@@ -1,8 +1,8 @@
 use mathlib.Core.Path.{refl}
-use Rattle.bins.proofs.Lookups.{found-at, found-none}
+use Rattle.bin_lookups.proofs.Lookups.{found-at, found-none}
 use borrow.Author.Needs.{needs}
-use Rattle.bins.proofs.found.Statement.{statement}
-use Rattle.bins.proofs.found.Tie as tie
+use Rattle.bin_lookups.proofs.found.Statement.{statement}
+use Rattle.bin_lookups.proofs.found.Tie as tie
 
 enum-known-index : tie.Need-enum-known-index
 enum-known-index c = search needs

@@ -4,9 +4,9 @@ use native.Mathlib.Omega.{arith}
 use lib.ListN.{length, drop}
 use borrow.Author.Needs.{needs}
 use Rattle.definitions.specs.Rules.{allFinite}
-use Rattle.bins.proofs.Irregular.{finite-again, finite-stop, finite-done}
-use Rattle.bins.proofs.all_finite.Statement.{statement}
-use Rattle.bins.proofs.all_finite.Tie as tie
+use Rattle.edge_validation.proofs.Validation.{finite-again, finite-stop, finite-done}
+use Rattle.edge_validation.proofs.all_finite.Statement.{statement}
+use Rattle.edge_validation.proofs.all_finite.Tie as tie
 
 abbrev Inv-loop : tie.InvT-loop
 Inv-loop edges i₀ i = (i ≤ length edges) × (allFinite edges ≡ allFinite (drop i edges))
