@@ -17,7 +17,8 @@ use Rattle.unstructured_points.specs.declared.Stride.{Stride}
 use Rattle.unstructured_points.specs.Readings.{pointsOf}
 use Rattle.spatial.specs.declared.Block.{Block}
 use Rattle.spatial.specs.Readings.{blockOf}
-use Rattle.capi.specs.Entries.{kindFrom, strideFrom, setFrom}
+use Rattle.capi_words.specs.Words.{kindFrom, strideFrom}
+use Rattle.capi.specs.Entries.{setFrom}
 
 module _ (run given : Run) (same : run ≡ given) where
   pub run-number : (len x : ℕ) → x ≡ refusal (runRules run len) → x ≡ refusal (runRules given len)

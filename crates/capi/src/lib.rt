@@ -1,74 +1,25 @@
 // The library's operations for C: numbers and slices alone, a slice as a pointer and a length. Nothing is asked of a caller but live slices.
-use bins::Lookup;
-use misc::Segment;
 use parallel_serial::Shape;
-use reducer::Edges;
-use reducer::Kind;
-use reducer::PairOperation;
 use spatial::Block;
 use spatial::CellWidth;
-use state::Outcome;
-use state::StateKind;
 use unstructured_points::PointSet;
-use unstructured_points::Stride;
 ghost use mathlib.Core.Path.{_≡_};
 ghost use mathlib.Core.Option.{none, some};
-ghost use mathlib.Core.List.{[], _∷_};
-ghost use Prim.Native.Nat.{ℕ, _*_};
+ghost use Prim.Native.Nat.{_*_};
 ghost use lib.ListN.{length};
 ghost use Rattle.definitions.specs.Bins.{regular, irregular, find};
 ghost use Rattle.definitions.specs.Segments.{segmentStart, segmentStop};
 ghost use Rattle.definitions.specs.State.{resetPack, mergePacks, consolidatePacks, resultValue};
-ghost use Rattle.definitions.specs.Rules.{refusal, met, ifAccepted, edgesCallRules, segmentRules, resetRules, mergeRules, consolidateRules, resultRules, runRules, step};
-ghost use Rattle.bins.specs.Answers.{lookupNumber, lookupResult};
-ghost use Rattle.misc.specs.Segment.{segmentNumber, segmentBounds};
-ghost use Rattle.state.specs.Readings.{stateKindOf, numberOf};
+ghost use Rattle.definitions.specs.Rules.{refusal, ifAccepted, edgesCallRules, segmentRules, resetRules, mergeRules, consolidateRules, resultRules, runRules, step};
+ghost use Rattle.state.specs.Readings.{stateKindOf};
 ghost use Rattle.unstructured_points.specs.Readings.{pointsOf};
 ghost use Rattle.unstructured.specs.Readings as points;
 ghost use Rattle.spatial.specs.Readings.{blockOf};
 ghost use Rattle.twopoint_cartesian.specs.Readings as blocks;
-ghost use Rattle.capi.specs.Entries.{edgesFrom, kindFrom, opFrom, strideFrom, stateKindFrom, setFrom, blockFrom, widthFrom, shapeFrom, written, lookupWords, segmentWords};
+ghost use Rattle.capi_words.specs.Words.{edgesFrom, kindFrom, opFrom, stateKindFrom, written, lookupWords, segmentWords};
+ghost use Rattle.capi.specs.Entries.{setFrom, blockFrom, widthFrom, shapeFrom};
 
 // ---- what the numbers stand for
-
-fn edges_from(irregular: u64, min: f64, max: f64, n_bins: usize) -> Edges
-    ensures { λ r. ⌜ r ≡ edgesFrom irregular min max «n_bins» ⌝ }
-{
-    if irregular == 0 {
-        return Edges::Regular(min, max, n_bins);
-    }
-    Edges::Irregular
-}
-
-fn kind_from(form: u64, edges: Edges) -> Kind
-    ensures { λ r. ⌜ r ≡ kindFrom form edges ⌝ }
-{
-    if form == 0 {
-        return Kind::Comp0Mean;
-    }
-    if form == 1 {
-        return Kind::ComponentSumMean;
-    }
-    Kind::ComponentSumHistogram(edges)
-}
-
-fn op_from(subtract: u64) -> PairOperation
-    ensures { λ r. ⌜ r ≡ opFrom subtract ⌝ }
-{
-    if subtract == 0 {
-        return PairOperation::ElementwiseMultiply;
-    }
-    PairOperation::ElementwiseSub
-}
-
-fn stride_from(stated: u64, stride: usize) -> Stride
-    ensures { λ r. ⌜ r ≡ strideFrom stated stride ⌝ }
-{
-    if stated == 0 {
-        return Stride::Omitted;
-    }
-    Stride::Given(stride)
-}
 
 fn block_from(
     nz: usize,
@@ -96,54 +47,6 @@ fn block_from(
     }
 }
 
-fn state_kind_from(histogram: u64, n_bins: usize) -> StateKind
-    ensures { λ r. ⌜ r ≡ stateKindFrom histogram «n_bins» ⌝ }
-{
-    if histogram == 0 {
-        return StateKind::Mean;
-    }
-    StateKind::Histogram(n_bins)
-}
-
-// 0 where the call is done.
-fn number_from(answer: Outcome) -> u32
-    ensures { λ r. ⌜ ((n : ℕ) → numberOf answer ≡ met n → r ≡ n) ⌝ }
-{
-    match answer {
-        Outcome::Done => 0,
-        Outcome::Refused(number) => number,
-    }
-}
-
-fn write_words(a: u64, b: u64, c: u64, out: &mut [u64])
-    ensures { λ _. ⌜ now (out .exit) ≡ written (a ∷ b ∷ c ∷ []) (now (out .entry)) ⌝ }
-{
-    if out.len() == 3 {
-        out[0] = a;
-        out[1] = b;
-        out[2] = c;
-    }
-}
-
-fn write_lookup(answer: Lookup, out: &mut [u64])
-    ensures { λ _. ⌜ now (out .exit) ≡ written (lookupWords (lookupNumber answer) (lookupResult answer)) (now (out .entry)) ⌝ }
-{
-    match answer {
-        Lookup::At(i) => write_words(0, 1, i as u64, out),
-        Lookup::None => write_words(0, 0, 0, out),
-        Lookup::Refused(number) => write_words(number as u64, 0, 0, out),
-    }
-}
-
-fn write_segment(answer: Segment, out: &mut [u64])
-    ensures { λ _. ⌜ now (out .exit) ≡ written (segmentWords (segmentNumber answer) (segmentBounds answer)) (now (out .entry)) ⌝ }
-{
-    match answer {
-        Segment::Bounds(start, stop) => write_words(0, start as u64, stop as u64, out),
-        Segment::Refused(number) => write_words(number as u64, 0, 0, out),
-    }
-}
-
 // ---- lookups and segments
 
 #[no_mangle]
@@ -157,7 +60,7 @@ pub extern "C" fn pairstat_regular_bin_index(
     ensures { λ _. ⌜ now (out .exit) ≡ written (lookupWords (refusal (edgesCallRules (regular min max «n_bins»)))
         (ifAccepted (edgesCallRules (regular min max «n_bins»)) (some (find (regular min max «n_bins») value)) none)) (now (out .entry)) ⌝ }
 {
-    write_lookup(bins::regular_bin_index(min, max, n_bins, value), out);
+    capi_words::write_lookup(bin_lookups::regular_bin_index(min, max, n_bins, value), out);
 }
 
 #[no_mangle]
@@ -165,7 +68,7 @@ pub extern "C" fn pairstat_irregular_bin_index(edges: &[f64], value: f64, out: &
     ensures { λ _. ⌜ now (out .exit) ≡ written (lookupWords (refusal (edgesCallRules (irregular (now (edges .entry)))))
         (ifAccepted (edgesCallRules (irregular (now (edges .entry)))) (some (find (irregular (now (edges .entry))) value)) none)) (now (out .entry)) ⌝ }
 {
-    write_lookup(bins::irregular_bin_index(edges, value), out);
+    capi_words::write_lookup(bin_lookups::irregular_bin_index(edges, value), out);
 }
 
 #[no_mangle]
@@ -179,7 +82,7 @@ pub extern "C" fn pairstat_segment_idx_bounds(
         (ifAccepted (segmentRules «seg_index» «n_segments»)
         (some (segmentStart «n_indices» «n_segments» «seg_index», segmentStop «n_indices» «n_segments» «seg_index»)) none)) (now (out .entry)) ⌝ }
 {
-    write_segment(
+    capi_words::write_segment(
         misc::segment_idx_bounds(n_indices, seg_index, n_segments),
         out,
     );
@@ -199,8 +102,8 @@ pub extern "C" fn pairstat_reset_full_statepack(
     ensures { λ _. ⌜ now (pack .exit) ≡ ifAccepted (resetRules (stateKindOf (stateKindFrom histogram «n_bins»)) «n_states» «state_size» (length (now (pack .entry))))
         (resetPack («n_states» * «state_size») (now (pack .entry))) (now (pack .entry)) ⌝ }
 {
-    let kind = state_kind_from(histogram, n_bins);
-    number_from(state::reset_full_statepack(kind, n_states, state_size, pack))
+    let kind = capi_words::state_kind_from(histogram, n_bins);
+    capi_words::number_from(state::reset_full_statepack(kind, n_states, state_size, pack))
 }
 
 #[no_mangle]
@@ -220,8 +123,8 @@ pub extern "C" fn pairstat_merge_full_statepacks(
         (length (now (pack .entry))) (length (now (other .entry))))
         (mergePacks («n_states» * «state_size») (now (pack .entry)) (now (other .entry))) (now (pack .entry)) ⌝ }
 {
-    let kind = state_kind_from(histogram, n_bins);
-    number_from(state::merge_full_statepacks(
+    let kind = capi_words::state_kind_from(histogram, n_bins);
+    capi_words::number_from(state::merge_full_statepacks(
         kind,
         n_states,
         state_size,
@@ -245,8 +148,8 @@ pub extern "C" fn pairstat_serial_consolidate_scratch_statepacks(
     ensures { λ _. ⌜ now (packs .exit) ≡ ifAccepted (consolidateRules (stateKindOf (stateKindFrom histogram «n_bins»)) «n_packs» «n_states» «state_size» (length (now (packs .entry))))
         (consolidatePacks «n_packs» («n_states» * «state_size») (now (packs .entry))) (now (packs .entry)) ⌝ }
 {
-    let kind = state_kind_from(histogram, n_bins);
-    number_from(state::serial_consolidate_scratch_statepacks(
+    let kind = capi_words::state_kind_from(histogram, n_bins);
+    capi_words::number_from(state::serial_consolidate_scratch_statepacks(
         kind,
         n_packs,
         n_states,
@@ -269,8 +172,15 @@ pub extern "C" fn pairstat_value_from_accum_state(
     ensures { λ _. ⌜ now (value .exit) ≡ ifAccepted (resultRules (stateKindOf (stateKindFrom histogram «n_bins»)) «n_states» «state_size» index (length (now (pack .entry))) (length (now (value .entry))))
         (resultValue (stateKindOf (stateKindFrom histogram «n_bins»)) «n_states» index (now (pack .entry)) (now (value .entry))) (now (value .entry)) ⌝ }
 {
-    let kind = state_kind_from(histogram, n_bins);
-    number_from(state::value_from_accum_state(kind, n_states, state_size, index, pack, value))
+    let kind = capi_words::state_kind_from(histogram, n_bins);
+    capi_words::number_from(state::value_from_accum_state(
+        kind,
+        n_states,
+        state_size,
+        index,
+        pack,
+        value,
+    ))
 }
 
 // ---- the runs: the number of the refusal, 0 for none
@@ -310,19 +220,19 @@ pub extern "C" fn pairstat_points_auto(
 {
     let set = PointSet {
         n_points,
-        stride: stride_from(stated, stride),
+        stride: capi_words::stride_from(stated, stride),
     };
-    let edges = edges_from(irregular, min, max, n_bins);
-    let value = edges_from(value_irregular, value_min, value_max, value_bins);
-    let kind = kind_from(form, value);
-    let op = op_from(subtract);
+    let edges = capi_words::edges_from(irregular, min, max, n_bins);
+    let value = capi_words::edges_from(value_irregular, value_min, value_max, value_bins);
+    let kind = capi_words::kind_from(form, value);
+    let op = capi_words::op_from(subtract);
     let shape = Shape {
         n_states,
         state_size,
         members,
         teams,
     };
-    number_from(unstructured::points_auto(
+    capi_words::number_from(unstructured::points_auto(
         positions,
         values,
         weights,
@@ -380,23 +290,23 @@ pub extern "C" fn pairstat_points_cross(
 {
     let a = PointSet {
         n_points: a_points,
-        stride: stride_from(a_stated, a_stride),
+        stride: capi_words::stride_from(a_stated, a_stride),
     };
     let b = PointSet {
         n_points: b_points,
-        stride: stride_from(b_stated, b_stride),
+        stride: capi_words::stride_from(b_stated, b_stride),
     };
-    let edges = edges_from(irregular, min, max, n_bins);
-    let value = edges_from(value_irregular, value_min, value_max, value_bins);
-    let kind = kind_from(form, value);
-    let op = op_from(subtract);
+    let edges = capi_words::edges_from(irregular, min, max, n_bins);
+    let value = capi_words::edges_from(value_irregular, value_min, value_max, value_bins);
+    let kind = capi_words::kind_from(form, value);
+    let op = capi_words::op_from(subtract);
     let shape = Shape {
         n_states,
         state_size,
         members,
         teams,
     };
-    number_from(unstructured::points_cross(
+    capi_words::number_from(unstructured::points_cross(
         a_positions,
         a_values,
         a_weights,
@@ -466,17 +376,17 @@ pub extern "C" fn pairstat_blocks_auto(
         y: width_y,
         x: width_x,
     };
-    let edges = edges_from(irregular, min, max, n_bins);
-    let value = edges_from(value_irregular, value_min, value_max, value_bins);
-    let kind = kind_from(form, value);
-    let op = op_from(subtract);
+    let edges = capi_words::edges_from(irregular, min, max, n_bins);
+    let value = capi_words::edges_from(value_irregular, value_min, value_max, value_bins);
+    let kind = capi_words::kind_from(form, value);
+    let op = capi_words::op_from(subtract);
     let shape = Shape {
         n_states,
         state_size,
         members,
         teams,
     };
-    number_from(twopoint_cartesian::blocks_auto(
+    capi_words::number_from(twopoint_cartesian::blocks_auto(
         a0,
         a1,
         a2,
@@ -560,17 +470,17 @@ pub extern "C" fn pairstat_blocks_cross(
         y: width_y,
         x: width_x,
     };
-    let edges = edges_from(irregular, min, max, n_bins);
-    let value = edges_from(value_irregular, value_min, value_max, value_bins);
-    let kind = kind_from(form, value);
-    let op = op_from(subtract);
+    let edges = capi_words::edges_from(irregular, min, max, n_bins);
+    let value = capi_words::edges_from(value_irregular, value_min, value_max, value_bins);
+    let kind = capi_words::kind_from(form, value);
+    let op = capi_words::op_from(subtract);
     let shape = Shape {
         n_states,
         state_size,
         members,
         teams,
     };
-    number_from(twopoint_cartesian::blocks_cross(
+    capi_words::number_from(twopoint_cartesian::blocks_cross(
         a0,
         a1,
         a2,

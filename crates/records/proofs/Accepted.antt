@@ -12,8 +12,8 @@ use Rattle.definitions.specs.Bins.{bins}
 use Rattle.definitions.specs.Rules.{rule, refusal, runRules, pointRules, irregularRules, overRun, packFits, accepted}
 use Rattle.definitions.specs.Records.{recordPoints, recordEdges, curveNumbers, curveRules, curveBins, entryRun}
 use Rattle.laws.proofs.Refusals.{noneBroken, none-broken, none-refused, broken-left, broken-right, broken-both}
-use Rattle.records.specs.Answers.{curveNumber}
-use Rattle.records.proofs.Rules.{edges-length}
+use Rattle.record_refusals.specs.Answers.{curveNumber}
+use Rattle.record_refusals.proofs.Rules.{edges-length}
 use Rattle.records.proofs.Outcomes.{limits}
 
 module _ (p e : List ℕ) (h : curveNumber p e ≡ 0) where

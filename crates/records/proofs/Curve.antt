@@ -25,7 +25,7 @@ use Rattle.records.specs.Answers.{curveRun, listedCurve, recordCurve}
 use Rattle.record_bytes.proofs.Stores.{same-stored, stored-take}
 use Rattle.record_bytes.proofs.Columns.{numbers-length, three-length}
 use Rattle.record_bytes.proofs.Files.{three-read, weights-read}
-use Rattle.records.proofs.Rules.{edges-decoded}
+use Rattle.record_refusals.proofs.Rules.{edges-decoded}
 
 module _ (p : List ℕ) (h : length p ≤ 57344) where
   three-decoded : (first : ℕ) (z q : List Float) → 3072 ≡ length z → q ≡ stored 0 (threeRead first p) z → take (3 * (length p / 56)) q ≡ threeNumbers first (length p / 56) p

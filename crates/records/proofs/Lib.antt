@@ -1,4 +1,3 @@
-pub mod Rules
 pub mod Curve
 pub mod Outcomes
 pub mod Accepted

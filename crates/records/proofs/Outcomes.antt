@@ -18,7 +18,8 @@ use Rattle.definitions.specs.Records.{curveBins, curveBytes, curveLines, curveP
 use Rattle.record_bytes.specs.Stores.{stored}
 use Rattle.record_bytes.specs.Columns.{curveRecords}
 use Rattle.curve_text.specs.Text.{linesText, refusedText, linesFitting, refusedFitting, fitted}
-use Rattle.records.specs.Answers.{curveNumber, zeroPack, outputBytes, outputLines, Fresh, fileRead}
+use Rattle.record_refusals.specs.Answers.{curveNumber}
+use Rattle.records.specs.Answers.{zeroPack, outputBytes, outputLines, Fresh, fileRead}
 use Rattle.record_bytes.proofs.Stores.{stored-take, stored-whole}
 use Rattle.record_bytes.proofs.Columns.{records-length}
 use Rattle.curve_text.proofs.Fitting.{lines-fit, refused-fit}

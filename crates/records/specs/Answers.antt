@@ -11,12 +11,8 @@ use Rattle.definitions.specs.Bins.{irregular, bins}
 use Rattle.definitions.specs.Points.{UnstructuredPoints}
 use Rattle.definitions.specs.Reducer.{elementwiseMultiply, componentSumMean}
 use Rattle.definitions.specs.Run.{onePoints, Run}
-use Rattle.definitions.specs.Rules.{refusal, step}
-use Rattle.definitions.specs.Records.{recordPoints, curveRules, curveNumbers, curveBins, curveBytes, curvePack, curveLines}
-
--- what a curve is refused for, by a name that stays shut
-unfoldable pub curveNumber : List ℕ → List ℕ → ℕ
-curveNumber points edges = refusal (curveRules points edges)
+use Rattle.definitions.specs.Rules.{step}
+use Rattle.definitions.specs.Records.{recordPoints, curveNumbers, curveBins, curveBytes, curvePack, curveLines}
 
 -- a pack of zeros as long as the largest curve's
 unfoldable pub zeroPack : List Float

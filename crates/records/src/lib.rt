@@ -1,8 +1,6 @@
 // Record files: the curve of points and edges as bytes, and its text.
 use parallel_serial::Shape;
 use record_bytes::EDGE_BYTES;
-use record_bytes::MAX_EDGES;
-use record_bytes::MAX_POINTS;
 use record_bytes::POINT_BYTES;
 use reducer::Edges;
 use reducer::Kind;
@@ -14,53 +12,13 @@ ghost use mathlib.Core.Bool.{false};
 ghost use Prim.Native.Nat.{_-_, _*_, _/_, _≤_};
 ghost use lib.ListN.{length, replicate};
 ghost use Rattle.definitions.specs.Floats.{zeroF};
-ghost use Rattle.definitions.specs.Bins.{bins, irregular};
-ghost use Rattle.definitions.specs.Rules.{refusal, irregularRules};
-ghost use Rattle.definitions.specs.Records.{recordEdges, curveBins, curvePack, entryRules, entryOutput, curveText, programText};
-ghost use Rattle.records.specs.Answers.{curveNumber, zeroPack, listedCurve, recordCurve, outputBytes, outputLines, Fresh, fileRead};
+ghost use Rattle.definitions.specs.Rules.{refusal};
+ghost use Rattle.definitions.specs.Records.{curveBins, curvePack, entryRules, entryOutput, curveText, programText};
+ghost use Rattle.records.specs.Answers.{zeroPack, listedCurve, recordCurve, outputBytes, outputLines, Fresh, fileRead};
 ghost use Rattle.record_bytes.specs.Stores.{stored};
 ghost use Rattle.curve_text.specs.Text.{refusedText, fitted};
 
-// ---- refusals
-
-fn edge_numbers() -> [f64; 257]
-    ensures { λ r. ⌜ 257 ≡ length r ⌝ }
-{
-    [0.0; 257]
-}
-
-// The edges' own rules.
-fn edges_refusal(edges: &[u8]) -> u32
-    requires { ⌜ length (now edges) ≤ 2056 ⌝ }
-    ensures { λ r. ⌜ r ≡ refusal (irregularRules (recordEdges (now (edges .entry)))) ⌝ }
-{
-    let n = edges.len() / EDGE_BYTES;
-    let mut list = edge_numbers();
-    record_bytes::decode_edges(edges, &mut list);
-    parallel_serial::edges_refusal(Edges::Irregular, &list[..n])
-}
-
-// 7; 27, points first; points; edges.
-fn curve_refusal(points: &[u8], edges: &[u8]) -> u32
-    ensures { λ r. ⌜ r ≡ curveNumber (now (points .entry)) (now (edges .entry)) ⌝ }
-{
-    if points.len() > MAX_POINTS * POINT_BYTES {
-        return 7;
-    }
-    if edges.len() > MAX_EDGES * EDGE_BYTES {
-        return 7;
-    }
-    if points.len() % POINT_BYTES != 0 {
-        return 27;
-    }
-    if edges.len() % EDGE_BYTES != 0 {
-        return 27;
-    }
-    if points.len() == 0 {
-        return 1;
-    }
-    edges_refusal(edges)
-}
+// ---- the curve
 
 // How many bins the edges bound.
 fn n_bins(edges: &[u8]) -> usize
@@ -72,8 +30,6 @@ fn n_bins(edges: &[u8]) -> usize
     }
     n - 1
 }
-
-// ---- the curve
 
 fn point_numbers() -> [f64; 3072]
     ensures { λ r. ⌜ 3072 ≡ length r ⌝ }
@@ -102,7 +58,7 @@ fn run(positions: &[f64], values: &[f64], weights: &[f64], n: usize, list: &[f64
         stride: Stride::Given(n),
     };
     let shape = Shape {
-        n_states: parallel_serial::n_bins(Edges::Irregular, list),
+        n_states: run_refusals::n_bins(Edges::Irregular, list),
         state_size: 2,
         members: 1,
         teams: 1,
@@ -149,7 +105,7 @@ fn fill_pack(points: &[u8], edges: &[u8], pack: &mut [f64])
     ensures { λ _. ⌜ now (pack .exit) ≡ curvePack (now (points .entry)) (now (edges .entry)) ⌝ }
 {
     let m = edges.len() / EDGE_BYTES;
-    let mut list = edge_numbers();
+    let mut list = record_refusals::edge_numbers();
     record_bytes::decode_edges(edges, &mut list);
     run_records(points, &list[..m], pack);
 }
@@ -172,7 +128,7 @@ pub extern "C" fn pairstat_curve(points: &[u8], edges: &[u8], output: &mut [u8])
     ensures { λ r. ⌜ r ≡ refusal (entryRules (now (points .entry)) (now (edges .entry)) (length (now (output .entry)))) ⌝ }
     ensures { λ _. ⌜ now (output .exit) ≡ entryOutput (now (points .entry)) (now (edges .entry)) (now (output .entry)) ⌝ }
 {
-    let number = curve_refusal(points, edges);
+    let number = record_refusals::curve_refusal(points, edges);
     if number != 0 {
         return number;
     }
@@ -211,7 +167,7 @@ fn write_text(points: &[u8], edges: &[u8], out: &mut [u8]) -> usize
     ensures { λ r. ⌜ (r ≡ length (curveText (now (points .entry)) (now (edges .entry)))) × (r ≤ 9728) ⌝ }
     ensures { λ _. ⌜ now (out .exit) ≡ stored 0 (curveText (now (points .entry)) (now (edges .entry))) (now (out .entry)) ⌝ }
 {
-    let number = curve_refusal(points, edges);
+    let number = record_refusals::curve_refusal(points, edges);
     if number != 0 {
         return curve_text::refused_line(out, number as usize);
     }

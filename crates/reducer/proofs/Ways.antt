@@ -16,7 +16,7 @@ use Rattle.definitions.specs.Bins.{regularIndex, irregularIndex, below}
 use Rattle.definitions.specs.Run.{place}
 use Rattle.definitions.specs.Reducer as definitions
 use Rattle.definitions.specs.Reducer.{datumOf, componentSum}
-use Rattle.laws.proofs.Places.{addMean, addHist}
+use Rattle.laws.proofs.Places.{bump, addMean, addHist}
 use Rattle.bins.specs.declared.RegularBinEdges.{RegularBinEdges}
 use Rattle.bins.specs.declared.BinIndex.{BinIndex}
 use Rattle.bins.specs.declared.BinIndex.the-variants.{At, None}
@@ -30,6 +30,10 @@ use Rattle.reducer.specs.declared.Reducer.the-variants.{Comp0Mean, Compo
 use Rattle.reducer.specs.declared.Datum.{Datum}
 use Rattle.reducer.specs.Readings.{opOf, theDatum, readingOf}
 use Rattle.reducer.specs.Consume.{builtBins, builtFind, builtBin, reducerSize, hasRoom, addIn, valueBin, addedAt, consumedAt, consumed}
+
+-- ---- a mean's total and weight
+pub both-bumped : (n s : ℕ) (v w : Float) (p q r : List Float) → q ≡ bump (place n 0 s) (mul binary64 v w) p → r ≡ bump (place n 1 s) w q → r ≡ addMean n s v w p
+both-bumped n s v w p q r e f = f ∙ ap (bump (place n 1 s) w) e
 
 -- ---- a pair's datum
 module _ (op : PairOperation) (a b : Datum) where

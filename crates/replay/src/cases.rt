@@ -5,7 +5,7 @@ use crate::words::float;
 use crate::words::least;
 use crate::words::part;
 use crate::words::word;
-use bins::Lookup;
+use bin_lookups::Lookup;
 use misc::Segment;
 use state::Outcome;
 use state::StateKind;
@@ -60,7 +60,7 @@ fn bounds(answer: Segment) -> Answer {
 
 // min max n v -> number, found, index
 fn regular_lookup(words: &[u64], floats: &[f64]) -> bool {
-    let answer = bins::regular_bin_index(
+    let answer = bin_lookups::regular_bin_index(
         float(floats, 0),
         float(floats, 1),
         count(words, 2),
@@ -72,7 +72,7 @@ fn regular_lookup(words: &[u64], floats: &[f64]) -> bool {
 // n edges.. v -> number, found, index
 fn irregular_lookup(words: &[u64], floats: &[f64]) -> bool {
     let end = after(1, count(words, 0));
-    let answer = bins::irregular_bin_index(part(floats, 1, end), float(floats, end));
+    let answer = bin_lookups::irregular_bin_index(part(floats, 1, end), float(floats, end));
     answer_agrees(lookup(answer), words, after(end, 1))
 }
 

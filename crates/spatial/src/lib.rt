@@ -274,7 +274,7 @@ pub fn run_refusal(
     }
     let sets = sets_refusal(auto, a0, a1, a2, aw, a, b0, b1, b2, bw, b, width);
     let pairs = pairs_refusal(auto, a, b);
-    parallel_serial::run_refusal(
+    run_refusals::run_refusal(
         false,
         sets,
         pairs,

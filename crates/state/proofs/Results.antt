@@ -13,8 +13,8 @@ use Rattle.definitions.specs.Reducer as Reducer
 use Rattle.definitions.specs.Reducer.{stateSize}
 use Rattle.definitions.specs.Run.{place}
 use Rattle.definitions.specs.State.{resultNumber, resultValue}
-use Rattle.state.specs.declared.StateKind.{StateKind}
-use Rattle.state.specs.declared.StateKind.the-variants.{Mean, Histogram}
+use Rattle.state_refusals.specs.declared.StateKind.{StateKind}
+use Rattle.state_refusals.specs.declared.StateKind.the-variants.{Mean, Histogram}
 use Rattle.state.specs.Readings.{stateKindOf, InPack}
 use Rattle.state.proofs.Packs.{turn, over}
 

@@ -1,16 +1,9 @@
 -- What the code's types stand for in the definitions.
 use mathlib.Core.Option.{Option, none, some}
 use Prim.Native.Nat.{ℕ, _*_, _≤_, _<_}
-use Rattle.definitions.specs.Reducer as Reducer
-use Rattle.definitions.specs.Reducer.{mean, histogram}
-use Rattle.state.specs.declared.StateKind.{StateKind}
-use Rattle.state.specs.declared.StateKind.the-variants.{Mean, Histogram}
 use Rattle.state.specs.declared.Outcome.{Outcome}
 use Rattle.state.specs.declared.Outcome.the-variants.{Done, Refused}
-
-abbrev pub stateKindOf : StateKind → Reducer.StateKind
-stateKindOf Mean = mean
-stateKindOf (Histogram n) = histogram n
+pub use Rattle.state_refusals.specs.Readings.{stateKindOf}
 
 -- the number that the call gives, if it gives one
 abbrev pub numberOf : Outcome → Option ℕ

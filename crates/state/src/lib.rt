@@ -1,24 +1,18 @@
 // The state pack: reset, merge, consolidation and result. Number e of state s is at e times (number of states) plus s.
+use state_view::StateNumber;
 ghost use mathlib.Core.Path.{_≡_};
-ghost use mathlib.Core.List.{[], _∷_};
-ghost use mathlib.Core.Bool.{not, _||_};
 ghost use Prim.Native.Nat.{_+_, _*_, _<_, _≤_};
-ghost use lib.Dec.{ltb, eqb};
 ghost use lib.ListN.{length};
 ghost use lib.Ieee.{binary64, add};
 ghost use Rattle.definitions.specs.Lists.{at, overwritten};
 ghost use Rattle.definitions.specs.Reducer.{stateSize};
 ghost use Rattle.definitions.specs.Run.{place};
 ghost use Rattle.definitions.specs.State.{resetPack, mergePacks, consolidatePacks, resultNumber, resultValue};
-ghost use Rattle.definitions.specs.Rules.{rule, refusal, met, ifAccepted, overState, overPack, noBins, badShape, resetRules, mergeRules, consolidateRules, resultRules};
+ghost use Rattle.definitions.specs.Rules.{refusal, met, ifAccepted, resetRules, mergeRules, consolidateRules, resultRules};
 ghost use Rattle.state.specs.Readings.{stateKindOf, numberOf, InPack};
-ghost use Rattle.state.specs.View.{readingOf, seen};
 
 // A mean, or a histogram by its count of value bins.
-pub enum StateKind {
-    Mean,
-    Histogram(usize),
-}
+pub type StateKind = state_refusals::StateKind;
 
 // Done, or the number of the refusal.
 pub enum Outcome {
@@ -26,224 +20,14 @@ pub enum Outcome {
     Refused(u32),
 }
 
-// ---- refusals, by lengths alone
-
-// How many numbers a state of the kind has.
-pub fn accum_state_size(kind: StateKind) -> usize
-    ensures { λ r. ⌜ r ≡ stateSize (stateKindOf kind) ⌝ }
-{
-    match kind {
-        StateKind::Mean => 2,
-        StateKind::Histogram(n) => n,
-    }
-}
-
-// Whether a times b is over the limit, by division: no product wraps.
-fn product_over(a: usize, b: usize, limit: usize) -> bool
-    ensures { λ r. ⌜ r ≡ ltb limit (a * b) ⌝ }
-{
-    if b == 0 {
-        return false;
-    }
-    limit / b < a
-}
-
-// The refusals of one pack's shape; `unfit` is what else the operation finds with number 24.
-fn pack_refusal(kind: StateKind, n_states: usize, state_size: usize, unfit: bool) -> u32
-    ensures { λ r. ⌜ r ≡ refusal (rule 7 (overState (stateKindOf kind) || overPack «n_states» «state_size») ∷ rule 8 (noBins (stateKindOf kind))
-        ∷ rule 24 (badShape (stateKindOf kind) «n_states» «state_size» || unfit) ∷ []) ⌝ }
-{
-    let own = accum_state_size(kind);
-    if own > 256 {
-        return 7;
-    }
-    if product_over(n_states, state_size, 4096) {
-        return 7;
-    }
-    if own == 0 {
-        return 8;
-    }
-    if n_states == 0 {
-        return 24;
-    }
-    if state_size != own {
-        return 24;
-    }
-    if unfit {
-        return 24;
-    }
-    0
-}
-
-fn reset_refusal(kind: StateKind, n_states: usize, state_size: usize, len: usize) -> u32
-    ensures { λ r. ⌜ r ≡ refusal (resetRules (stateKindOf kind) «n_states» «state_size» len) ⌝ }
-{
-    let short = product_over(n_states, state_size, len);
-    pack_refusal(kind, n_states, state_size, short)
-}
-
-// What a merge finds with number 24 beside the first pack's shape: a short slice, or a second pack of another shape.
-fn merge_unfit(
-    n_states: usize,
-    state_size: usize,
-    other_states: usize,
-    other_size: usize,
-    len: usize,
-    other_len: usize,
-) -> bool
-    ensures { λ r. ⌜ r ≡ (ltb len («n_states» * «state_size») || not (eqb «other_states» «n_states») || not (eqb «other_size» «state_size»)
-        || ltb «other_len» («n_states» * «state_size»)) ⌝ }
-{
-    if product_over(n_states, state_size, len) {
-        return true;
-    }
-    if other_states != n_states {
-        return true;
-    }
-    if other_size != state_size {
-        return true;
-    }
-    product_over(n_states, state_size, other_len)
-}
-
-// The second pack's limit comes first: it has number 7 as the others have.
-fn merge_refusal(
-    kind: StateKind,
-    n_states: usize,
-    state_size: usize,
-    other_states: usize,
-    other_size: usize,
-    len: usize,
-    other_len: usize,
-) -> u32
-    ensures { λ r. ⌜ r ≡ refusal (mergeRules (stateKindOf kind) «n_states» «state_size» «other_states» «other_size» len «other_len») ⌝ }
-{
-    if product_over(other_states, other_size, 4096) {
-        return 7;
-    }
-    let unfit = merge_unfit(
-        n_states,
-        state_size,
-        other_states,
-        other_size,
-        len,
-        other_len,
-    );
-    pack_refusal(kind, n_states, state_size, unfit)
-}
-
-// Whether packs of one shape, end to end, are longer than the slice. No product wraps.
-fn packs_over(n_packs: usize, n_states: usize, state_size: usize, len: usize) -> bool
-    ensures { λ r. ⌜ r ≡ ltb len («n_packs» * («n_states» * «state_size»)) ⌝ }
-{
-    if n_packs == 0 {
-        return false;
-    }
-    product_over(n_states, state_size, len / n_packs)
-}
-
-fn consolidate_refusal(
-    kind: StateKind,
-    n_packs: usize,
-    n_states: usize,
-    state_size: usize,
-    len: usize,
-) -> u32
-    ensures { λ r. ⌜ r ≡ refusal (consolidateRules (stateKindOf kind) «n_packs» «n_states» «state_size» len) ⌝ }
-{
-    let short = packs_over(n_packs, n_states, state_size, len);
-    pack_refusal(kind, n_states, state_size, short)
-}
-
-// What a result finds with number 24 beside the pack's shape.
-fn result_unfit(n_states: usize, state_size: usize, len: usize, value_len: usize) -> bool
-    ensures { λ r. ⌜ r ≡ (ltb len («n_states» * «state_size») || ltb «value_len» «state_size») ⌝ }
-{
-    if product_over(n_states, state_size, len) {
-        return true;
-    }
-    value_len < state_size
-}
-
-fn result_refusal(
-    kind: StateKind,
-    n_states: usize,
-    state_size: usize,
-    index: usize,
-    len: usize,
-    value_len: usize,
-) -> u32
-    ensures { λ r. ⌜ r ≡ refusal (resultRules (stateKindOf kind) «n_states» «state_size» index len «value_len») ⌝ }
-{
-    let unfit = result_unfit(n_states, state_size, len, value_len);
-    let number = pack_refusal(kind, n_states, state_size, unfit);
-    if number != 0 {
-        return number;
-    }
-    if index >= n_states {
-        return 25;
-    }
-    0
-}
-
-// ---- one state seen through its length and stride
-
-// Number e of the state is e strides past the slice's first number.
-pub struct AccumStateView<'a> {
-    pub data: &'a [f64],
-    pub len: usize,
-    pub stride: usize,
-}
-
-// What a reading finds: a number, or that the state or the slice has none there.
-pub enum StateNumber {
-    At(f64),
-    Outside,
-}
-
-// The work of a view: the place is judged by division, so any numbers may be passed.
-pub fn strided_number(data: &[f64], len: usize, stride: usize, e: usize) -> StateNumber
-    ensures { λ r. ⌜ readingOf r ≡ seen (now («data» .entry)) len stride e ⌝ }
-{
-    if len <= e {
-        return StateNumber::Outside;
-    }
-    if data.len() == 0 {
-        return StateNumber::Outside;
-    }
-    if product_over(e, stride, data.len() - 1) {
-        return StateNumber::Outside;
-    }
-    StateNumber::At(data[e * stride])
-}
-
-// A view of the state whose first number is the slice's first.
-pub fn view_of<'a>(data: &'a [f64], len: usize, stride: usize) -> AccumStateView<'a>
-    ensures { λ r. ⌜ (r .«data» ≡ «data» .entry) × (r .len ≡ len) × (r .stride ≡ stride) ⌝ }
-{
-    AccumStateView { data, len, stride }
-}
-
-// Number e of the state that the view shows.
-pub fn number_at<'a>(view: AccumStateView<'a>, e: usize) -> StateNumber
-    ensures { λ r. ⌜ readingOf r ≡ seen (now (view .entry .«data»)) (view .entry .len) (view .entry .stride) e ⌝ }
-{
-    strided_number(view.data, view.len, view.stride, e)
-}
-
-// Number e of a state, by way of its view. Its contract says nothing of a view, so whoever calls it needs no proof by hand.
-pub fn read_number(part: &[f64], len: usize, stride: usize, e: usize) -> StateNumber
-    ensures { λ r. ⌜ readingOf r ≡ seen (now (part .entry)) len stride e ⌝ }
-{
-    number_at(view_of(part, len, stride), e)
-}
+// ---- numbers of a state
 
 // Number e of state s: its view starts at the state's first number, and its stride is the number of states.
 fn state_number(pack: &[f64], n_states: usize, state_size: usize, s: usize, e: usize) -> f64
     requires { ⌜ InPack «n_states» «state_size» s e (length (now pack)) ⌝ }
     ensures { λ r. ⌜ r ≡ at (now (pack .entry)) (place «n_states» e s) ⌝ }
 {
-    match read_number(&pack[s..], state_size, n_states, e) {
+    match state_view::read_number(&pack[s..], state_size, n_states, e) {
         StateNumber::At(x) => x,
         // Not reached: the pack has the number.
         StateNumber::Outside => 0.0 / 0.0,
@@ -356,7 +140,7 @@ pub fn reset_full_statepack(
     ensures { λ _. ⌜ now (pack .exit) ≡ ifAccepted (resetRules (stateKindOf kind) «n_states» «state_size» (length (now (pack .entry))))
         (resetPack («n_states» * «state_size») (now (pack .entry))) (now (pack .entry)) ⌝ }
 {
-    let number = reset_refusal(kind, n_states, state_size, pack.len());
+    let number = state_refusals::reset_refusal(kind, n_states, state_size, pack.len());
     if number != 0 {
         return Outcome::Refused(number);
     }
@@ -380,7 +164,7 @@ pub fn merge_full_statepacks(
         (length (now (pack .entry))) (length (now (other .entry))))
         (mergePacks («n_states» * «state_size») (now (pack .entry)) (now (other .entry))) (now (pack .entry)) ⌝ }
 {
-    let number = merge_refusal(
+    let number = state_refusals::merge_refusal(
         kind,
         n_states,
         state_size,
@@ -408,7 +192,13 @@ pub fn serial_consolidate_scratch_statepacks(
     ensures { λ _. ⌜ now (packs .exit) ≡ ifAccepted (consolidateRules (stateKindOf kind) «n_packs» «n_states» «state_size» (length (now (packs .entry))))
         (consolidatePacks «n_packs» («n_states» * «state_size») (now (packs .entry))) (now (packs .entry)) ⌝ }
 {
-    let number = consolidate_refusal(kind, n_packs, n_states, state_size, packs.len());
+    let number = state_refusals::consolidate_refusal(
+        kind,
+        n_packs,
+        n_states,
+        state_size,
+        packs.len(),
+    );
     if number != 0 {
         return Outcome::Refused(number);
     }
@@ -432,7 +222,14 @@ pub fn value_from_accum_state(
     ensures { λ _. ⌜ now (value .exit) ≡ ifAccepted (resultRules (stateKindOf kind) «n_states» «state_size» index (length (now (pack .entry))) (length (now (value .entry))))
         (resultValue (stateKindOf kind) «n_states» index (now (pack .entry)) (now (value .entry))) (now (value .entry)) ⌝ }
 {
-    let number = result_refusal(kind, n_states, state_size, index, pack.len(), value.len());
+    let number = state_refusals::result_refusal(
+        kind,
+        n_states,
+        state_size,
+        index,
+        pack.len(),
+        value.len(),
+    );
     if number != 0 {
         return Outcome::Refused(number);
     }

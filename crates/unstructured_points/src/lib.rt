@@ -147,7 +147,7 @@ pub fn run_refusal(
         b_weights,
         b,
     );
-    parallel_serial::run_refusal(over, number, 0, edges, list, kind, value_edges, shape, len)
+    run_refusals::run_refusal(over, number, 0, edges, list, kind, value_edges, shape, len)
 }
 
 // ---- two points

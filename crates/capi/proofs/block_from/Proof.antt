@@ -1,10 +1,7 @@
 use Rattle.capi.proofs.Runs.{read-back}
 use Rattle.capi.proofs.block_from.Statement.{statement}
 use Rattle.capi.proofs.block_from.Tie as tie
-use Rattle.capi.proofs.block_from.Reads as reads
-use Rattle.capi.proofs.block_from.Lts as lts
 
--- src/lib.rt:71:1
 returns : tie.Need-returns
 returns c = read-back _ (c .fits .gz) (c .fits .gy) (c .fits .gx)
 

@@ -1,58 +1,42 @@
+use Rattle.capi_words.proofs.Words.{said}
 use Rattle.capi.specs.Entries.{blockFrom}
 use Rattle.twopoint_cartesian.specs.Readings.{setsRun}
 use Rattle.capi.proofs.Runs.{same-runs, same-block, one-block, run-number, run-pack}
 use borrow.Author.Needs.{needs}
 use Rattle.capi.proofs.pairstat_blocks_auto.Statement.{statement}
 use Rattle.capi.proofs.pairstat_blocks_auto.Tie as tie
-use Rattle.capi.proofs.pairstat_blocks_auto.Reads as reads
-use Rattle.capi.proofs.pairstat_blocks_auto.Lts as lts
-use Rattle.capi.proofs.block_from.Reads as block-from-reads
-use Rattle.capi.proofs.edges_from.Reads as edges-from-reads
-use Rattle.capi.proofs.kind_from.Reads as kind-from-reads
-use Rattle.capi.proofs.number_from.Reads as number-from-reads
-use Rattle.capi.proofs.op_from.Reads as op-from-reads
-use Rattle.twopoint_cartesian.proofs.blocks_auto.Reads as blocks-auto-reads
 
--- src/lib.rt:461:9
 block-from-requires : tie.Need-block-from-requires
 block-from-requires c κs = search needs
 
--- src/lib.rt:467:9
 edges-from-requires : tie.Need-edges-from-requires
 edges-from-requires c κs = search needs
 
--- src/lib.rt:468:9
 edges-from-requires-2 : tie.Need-edges-from-requires-2
 edges-from-requires-2 c κs = search needs
 
--- src/lib.rt:469:9
 kind-from-requires : tie.Need-kind-from-requires
 kind-from-requires c κs = search needs
 
--- src/lib.rt:470:9
 op-from-requires : tie.Need-op-from-requires
 op-from-requires c κs = search needs
 
--- src/lib.rt:477:17
 blocks-auto-requires : tie.Need-blocks-auto-requires
 blocks-auto-requires c κs = search needs
 
--- src/lib.rt:477:5
 number-from-requires : tie.Need-number-from-requires
 number-from-requires c κs = search needs
 
--- src/lib.rt:416:1
 same-length : tie.Need-same-length
 same-length c = search needs
 
--- src/lib.rt:416:1
 returns : tie.Need-returns
 returns c =
     let s = c .before .before .before .before .before .before .before .before .before .before .before .before .before .before .before .before .before in
     let q = c .before .before .before .blocks-auto .ensures in
     let same = same-runs setsRun _ _ _ _ _ _ _ _ _ _ _ _ _ (one-block _ _ _ (same-block _ (blockFrom _ _ _ _ _ _ (s .args .a-gz) (s .args .a-gy) (s .args .a-gx)) _ _ _ _ (c .before .before .before .before .before .before .before .before .before .block-from .ensures) (s .fits .a-gz) (s .fits .a-gy) (s .fits .a-gx))) (c .before .before .before .before .before .before .before .before .edges-from .ensures) (c .before .before .before .before .before .before .before .edges-from2 .ensures)
     (c .before .before .before .before .before .before .kind-from .ensures) (c .before .before .before .before .before .op-from .ensures) in
-    (run-number _ _ same _ _ (c .number-from .ensures _ (q .0)), run-pack _ _ same _ _ (q .1))
+    (run-number _ _ same _ _ (said _ _ _ (c .number-from .ensures) (q .0)), run-pack _ _ same _ _ (q .1))
 
 pub pairstat-blocks-auto-spec : {M : Type 1} → statement M
 pairstat-blocks-auto-spec =

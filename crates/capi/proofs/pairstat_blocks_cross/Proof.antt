@@ -1,55 +1,38 @@
+use Rattle.capi_words.proofs.Words.{said}
 use Rattle.capi.specs.Entries.{blockFrom}
 use Rattle.twopoint_cartesian.specs.Readings.{setsRun}
 use Rattle.capi.proofs.Runs.{same-runs, same-block, two-blocks, run-number, run-pack}
 use borrow.Author.Needs.{needs}
 use Rattle.capi.proofs.pairstat_blocks_cross.Statement.{statement}
 use Rattle.capi.proofs.pairstat_blocks_cross.Tie as tie
-use Rattle.capi.proofs.pairstat_blocks_cross.Reads as reads
-use Rattle.capi.proofs.pairstat_blocks_cross.Lts as lts
-use Rattle.capi.proofs.block_from.Reads as block-from-reads
-use Rattle.capi.proofs.edges_from.Reads as edges-from-reads
-use Rattle.capi.proofs.kind_from.Reads as kind-from-reads
-use Rattle.capi.proofs.number_from.Reads as number-from-reads
-use Rattle.capi.proofs.op_from.Reads as op-from-reads
-use Rattle.twopoint_cartesian.proofs.blocks_cross.Reads as blocks-cross-reads
 
--- src/lib.rt:554:9
 block-from-requires : tie.Need-block-from-requires
 block-from-requires c κs = search needs
 
--- src/lib.rt:555:9
 block-from-requires-2 : tie.Need-block-from-requires-2
 block-from-requires-2 c κs = search needs
 
--- src/lib.rt:561:9
 edges-from-requires : tie.Need-edges-from-requires
 edges-from-requires c κs = search needs
 
--- src/lib.rt:562:9
 edges-from-requires-2 : tie.Need-edges-from-requires-2
 edges-from-requires-2 c κs = search needs
 
--- src/lib.rt:563:9
 kind-from-requires : tie.Need-kind-from-requires
 kind-from-requires c κs = search needs
 
--- src/lib.rt:564:9
 op-from-requires : tie.Need-op-from-requires
 op-from-requires c κs = search needs
 
--- src/lib.rt:571:17
 blocks-cross-requires : tie.Need-blocks-cross-requires
 blocks-cross-requires c κs = search needs
 
--- src/lib.rt:571:5
 number-from-requires : tie.Need-number-from-requires
 number-from-requires c κs = search needs
 
--- src/lib.rt:494:1
 same-length : tie.Need-same-length
 same-length c = search needs
 
--- src/lib.rt:494:1
 returns : tie.Need-returns
 returns c =
     let s = c .before .before .before .before .before .before .before .before .before .before .before .before .before .before .before .before .before .before .before .before .before .before in
@@ -58,7 +41,7 @@ returns c =
     let b = same-block _ (blockFrom _ _ _ _ _ _ (s .args .b-gz) (s .args .b-gy) (s .args .b-gx)) _ _ _ _ (c .before .before .before .before .before .before .before .before .before .block-from2 .ensures) (s .fits .b-gz) (s .fits .b-gy) (s .fits .b-gx) in
     let same = same-runs setsRun _ _ _ _ _ _ _ _ _ _ _ _ _ (two-blocks _ _ _ _ _ a b) (c .before .before .before .before .before .before .before .before .edges-from .ensures) (c .before .before .before .before .before .before .before .edges-from2 .ensures)
     (c .before .before .before .before .before .before .kind-from .ensures) (c .before .before .before .before .before .op-from .ensures) in
-    (run-number _ _ same _ _ (c .number-from .ensures _ (q .0)), run-pack _ _ same _ _ (q .1))
+    (run-number _ _ same _ _ (said _ _ _ (c .number-from .ensures) (q .0)), run-pack _ _ same _ _ (q .1))
 
 pub pairstat-blocks-cross-spec : {M : Type 1} → statement M
 pairstat-blocks-cross-spec =

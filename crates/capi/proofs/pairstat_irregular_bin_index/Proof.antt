@@ -1,25 +1,17 @@
-use Rattle.capi.proofs.Words.{lookup-written}
+use Rattle.capi_words.proofs.Words.{lookup-written}
 use borrow.Author.Needs.{needs}
 use Rattle.capi.proofs.pairstat_irregular_bin_index.Statement.{statement}
 use Rattle.capi.proofs.pairstat_irregular_bin_index.Tie as tie
-use Rattle.capi.proofs.pairstat_irregular_bin_index.Reads as reads
-use Rattle.capi.proofs.pairstat_irregular_bin_index.Lts as lts
-use Rattle.bins.proofs.irregular_bin_index.Reads as irregular-bin-index-reads
-use Rattle.capi.proofs.write_lookup.Reads as write-lookup-reads
 
--- src/lib.rt:140:18
 irregular-bin-index-requires : tie.Need-irregular-bin-index-requires
 irregular-bin-index-requires c κs = search needs
 
--- src/lib.rt:140:5
 write-lookup-requires : tie.Need-write-lookup-requires
 write-lookup-requires c κs = search needs
 
--- src/lib.rt:135:1
 same-length : tie.Need-same-length
 same-length c = search needs
 
--- src/lib.rt:135:1
 returns : tie.Need-returns
 returns c = search lookup-written
 

@@ -1,55 +1,38 @@
+use Rattle.capi_words.proofs.Words.{said}
 use Rattle.definitions.specs.Run.{twoPoints}
 use Rattle.unstructured.specs.Readings.{setsRun}
 use Rattle.capi.proofs.Runs.{same-runs, same-set, run-number, run-pack}
 use borrow.Author.Needs.{needs}
 use Rattle.capi.proofs.pairstat_points_cross.Statement.{statement}
 use Rattle.capi.proofs.pairstat_points_cross.Tie as tie
-use Rattle.capi.proofs.pairstat_points_cross.Reads as reads
-use Rattle.capi.proofs.pairstat_points_cross.Lts as lts
-use Rattle.capi.proofs.edges_from.Reads as edges-from-reads
-use Rattle.capi.proofs.kind_from.Reads as kind-from-reads
-use Rattle.capi.proofs.number_from.Reads as number-from-reads
-use Rattle.capi.proofs.op_from.Reads as op-from-reads
-use Rattle.capi.proofs.stride_from.Reads as stride-from-reads
-use Rattle.unstructured.proofs.points_cross.Reads as points-cross-reads
 
--- src/lib.rt:355:17
 stride-from-requires : tie.Need-stride-from-requires
 stride-from-requires c κs = search needs
 
--- src/lib.rt:359:17
 stride-from-requires-2 : tie.Need-stride-from-requires-2
 stride-from-requires-2 c κs = search needs
 
--- src/lib.rt:361:9
 edges-from-requires : tie.Need-edges-from-requires
 edges-from-requires c κs = search needs
 
--- src/lib.rt:362:9
 edges-from-requires-2 : tie.Need-edges-from-requires-2
 edges-from-requires-2 c κs = search needs
 
--- src/lib.rt:363:9
 kind-from-requires : tie.Need-kind-from-requires
 kind-from-requires c κs = search needs
 
--- src/lib.rt:364:9
 op-from-requires : tie.Need-op-from-requires
 op-from-requires c κs = search needs
 
--- src/lib.rt:371:17
 points-cross-requires : tie.Need-points-cross-requires
 points-cross-requires c κs = search needs
 
--- src/lib.rt:371:5
 number-from-requires : tie.Need-number-from-requires
 number-from-requires c κs = search needs
 
--- src/lib.rt:312:1
 same-length : tie.Need-same-length
 same-length c = search needs
 
--- src/lib.rt:312:1
 returns : tie.Need-returns
 returns c =
     let q = c .before .before .before .points-cross .ensures in
@@ -57,7 +40,7 @@ returns c =
     let b = same-set _ _ _ _ _ _ _ (c .before .before .before .before .before .before .before .before .before .stride-from2 .ensures) in
     let same = same-runs setsRun _ _ _ _ _ _ _ _ _ _ _ _ _ (λ i. twoPoints (a i) (b i)) (c .before .before .before .before .before .before .before .before .edges-from .ensures) (c .before .before .before .before .before .before .before .edges-from2 .ensures)
     (c .before .before .before .before .before .before .kind-from .ensures) (c .before .before .before .before .before .op-from .ensures) in
-    (run-number _ _ same _ _ (c .number-from .ensures _ (q .0)), run-pack _ _ same _ _ (q .1))
+    (run-number _ _ same _ _ (said _ _ _ (c .number-from .ensures) (q .0)), run-pack _ _ same _ _ (q .1))
 
 pub pairstat-points-cross-spec : {M : Type 1} → statement M
 pairstat-points-cross-spec =

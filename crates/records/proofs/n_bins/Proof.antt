@@ -1,5 +1,5 @@
 use native.Mathlib.Omega.{arith}
-use Rattle.records.proofs.Rules.{bins-none, bins-are}
+use Rattle.record_refusals.proofs.Rules.{bins-none, bins-are}
 use borrow.Author.Needs.{needs}
 use Rattle.records.proofs.n_bins.Statement.{statement}
 use Rattle.records.proofs.n_bins.Tie as tie

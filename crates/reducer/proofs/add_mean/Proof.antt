@@ -1,3 +1,4 @@
+use Rattle.reducer.proofs.Ways.{both-bumped}
 use borrow.Author.Needs.{needs}
 use Rattle.reducer.proofs.add_mean.Statement.{statement}
 use Rattle.reducer.proofs.add_mean.Tie as tie
@@ -12,7 +13,7 @@ same-length : tie.Need-same-length
 same-length c = search needs
 
 returns : tie.Need-returns
-returns c = cc
+returns c = search both-bumped
 
 pub add-mean-spec : {M : Type 1} → statement M
 add-mean-spec = tie.close (tie.spec add-number-requires add-number-requires-2 same-length returns)

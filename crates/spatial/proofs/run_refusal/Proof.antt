@@ -5,7 +5,7 @@ use Rattle.spatial.proofs.run_refusal.Statement.{statement}
 use Rattle.spatial.proofs.run_refusal.Tie as tie
 use Rattle.spatial.proofs.run_refusal.Reads as reads
 use Rattle.spatial.proofs.run_refusal.Lts as lts
-use Rattle.parallel_serial.proofs.run_refusal.Reads as run-refusal-reads
+use Rattle.run_refusals.proofs.run_refusal.Reads as run-refusal-reads
 use Rattle.spatial.proofs.pairs_refusal.Reads as pairs-refusal-reads
 use Rattle.spatial.proofs.sets_over.Reads as sets-over-reads
 use Rattle.spatial.proofs.sets_refusal.Reads as sets-refusal-reads

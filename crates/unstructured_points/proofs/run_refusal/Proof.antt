@@ -4,7 +4,7 @@ use Rattle.unstructured_points.proofs.run_refusal.Statement.{statement}
 use Rattle.unstructured_points.proofs.run_refusal.Tie as tie
 use Rattle.unstructured_points.proofs.run_refusal.Reads as reads
 use Rattle.unstructured_points.proofs.run_refusal.Lts as lts
-use Rattle.parallel_serial.proofs.run_refusal.Reads as run-refusal-reads
+use Rattle.run_refusals.proofs.run_refusal.Reads as run-refusal-reads
 use Rattle.unstructured_points.proofs.sets_over.Reads as sets-over-reads
 use Rattle.unstructured_points.proofs.sets_refusal.Reads as sets-refusal-reads
 

@@ -1,0 +1,2 @@
+-- What the numbers and words of a flat call stand for.
+pub mod Words

@@ -1,0 +1,66 @@
+use mathlib.Core.Path.{_≡_}
+use Prim.Native.Nat.{_≤_, _-_}
+use native.Mathlib.Omega.{arith}
+use lib.ListN.{length, drop}
+use borrow.Author.Needs.{needs}
+use Rattle.definitions.specs.Rules.{increasing}
+use Rattle.edge_validation.proofs.Validation.{rising-again, rising-stop, rising-done}
+use Rattle.edge_validation.proofs.is_increasing.Statement.{statement}
+use Rattle.edge_validation.proofs.is_increasing.Tie as tie
+
+abbrev Inv-loop : tie.InvT-loop
+Inv-loop edges i₀ i = (1 ≤ i) × (increasing edges ≡ increasing (drop (i - 1) edges))
+
+abbrev μ-loop : tie.MeasureT-loop
+μ-loop edges i₀ i = length edges - i
+
+loop-holds : tie.Need-loop-holds Inv-loop μ-loop
+loop-holds c = search needs
+
+sub-left : tie.Need-sub-left Inv-loop μ-loop
+sub-left c = search needs
+
+mul-left : tie.Need-mul-left Inv-loop μ-loop
+mul-left c = search needs
+
+shared-slice-read-left : tie.Need-shared-slice-read-left Inv-loop μ-loop
+shared-slice-read-left c = search needs
+
+mul-right : tie.Need-mul-right Inv-loop μ-loop
+mul-right c = search needs
+
+shared-slice-read-right : tie.Need-shared-slice-read-right Inv-loop μ-loop
+shared-slice-read-right c = search needs
+
+add-i : tie.Need-add-i Inv-loop μ-loop
+add-i c = search needs
+
+loop-less : tie.Need-loop-less Inv-loop μ-loop
+loop-less c = search needs
+
+loop-again : tie.Need-loop-again Inv-loop μ-loop
+loop-again c = (omega arith, search rising-again)
+
+returns : tie.Need-returns Inv-loop μ-loop
+returns c = search rising-stop
+
+returns-2 : tie.Need-returns-2 Inv-loop μ-loop
+returns-2 c = search rising-done
+
+pub is-increasing-spec : {M : Type 1} → statement M
+is-increasing-spec =
+    tie.close
+    (tie.spec
+    Inv-loop
+    μ-loop
+    loop-holds
+    sub-left
+    mul-left
+    shared-slice-read-left
+    mul-right
+    shared-slice-read-right
+    add-i
+    loop-less
+    loop-again
+    returns
+    returns-2)
