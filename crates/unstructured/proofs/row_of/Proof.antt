@@ -1,0 +1,22 @@
+use mathlib.Core.Path.{ap}
+use borrow.Author.Needs.{needs}
+use Rattle.unstructured.proofs.row_of.Statement.{statement}
+use Rattle.unstructured.proofs.row_of.Tie as tie
+use Rattle.unstructured.proofs.row_of.Reads as reads
+use Rattle.unstructured.proofs.row_of.Lts as lts
+use Rattle.unstructured.proofs.first_partner.Reads as first-partner-reads
+
+-- src/lib.rt:710:9
+first-partner-requires : tie.Need-first-partner-requires
+first-partner-requires c κs = search needs
+
+-- src/lib.rt:717:12
+sub-t7 : tie.Need-sub-t7
+sub-t7 c = search needs
+
+-- src/lib.rt:704:1
+returns : tie.Need-returns
+returns c = cc
+
+pub row-of-spec : {M : Type 1} → statement M
+row-of-spec = tie.close (tie.spec first-partner-requires sub-t7 returns)
