@@ -115,6 +115,10 @@ kept-listed first last d m c l h k e =
       below = subst (λ (x : List ℕ). (q : ℕ) → q < length x → getD x q 0 < m) (sym e) (kept-all (λ x. x < m) first last d m (λ x p y z. p));
     }
 
+-- c places of m are in a slice that has kept its length
+pub room-for : (c m n k : ℕ) → c ≤ m → m ≤ n → k ≡ n → c ≤ k
+room-for c m n k h r e = omega arith
+
 -- ---- numbers of bins
 module _ (n size b len : ℕ) where
   many-states : leb n 4096 ≡ false → hasRoom n size b len ≡ false

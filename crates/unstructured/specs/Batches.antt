@@ -18,19 +18,13 @@ use Rattle.reducer.specs.declared.Reducer.the-variants.{Comp0Mean, ComponentSum
 use Rattle.reducer.specs.Readings.{opOf}
 use Rattle.reducer.specs.Consume.{builtBins, consumedAt}
 use Rattle.edge_table.specs.Table.{numberIn}
-use Rattle.edge_table.specs.Tabled.{Usable, UsableValues, Tabled, TabledValues}
+use Rattle.edge_table.specs.Tabled.{Tabled, TabledValues}
 use Rattle.unstructured.specs.declared.Setup.{Setup}
 use Rattle.unstructured.specs.declared.Tables.{Tables}
 use Rattle.unstructured.specs.declared.Row.{Row}
 use Rattle.unstructured.specs.Pairs.{pointIn}
 
--- the run's edges and value edges can be looked up by tables, and each bin has a state
-pub record UsableRun (setup : Setup) (list valueEdges : List Float) : Type 0 where
-  pub edges : Usable (setup .edges) list
-  pub values : UsableValues (setup .reducer) valueEdges
-  pub states : setup .«n_states» ≡ builtBins (setup .edges) (length list)
-
--- these are their tables
+-- the tables are those of the run's edges and value edges, and each bin has a state
 pub record TabledRun (setup : Setup) (list valueEdges : List Float) (tables : Tables) : Type 0 where
   pub edges : Tabled (setup .edges) list (tables .edges)
   pub values : TabledValues (setup .reducer) valueEdges (tables .values)

@@ -1,5 +1,7 @@
+use mathlib.Core.Path.{refl}
+use native.Mathlib.Nat.{le-refl}
+use Rattle.unstructured.proofs.Batches.{room-for}
 use mathlib.Core.Path.{sym, _∙_}
-use native.Mathlib.Omega.{arith}
 use lib.ListN.{take}
 use lib.Seq.{length-take-le}
 use Rattle.unstructured_points.specs.Readings.{thePoint}
@@ -22,40 +24,40 @@ distances-requires c κs = let s = c .before .before .before .before .before .be
 
 -- src/lib.rt:610:9
 list-inside-requires : tie.Need-list-inside-requires
-list-inside-requires c κs = let s = c .before .before .before .before .before .before .before .before .before .before .before .before .before .before .before .before .before .before .before .before .before in
-    (omega (arith, s .pre .1 .distances, c .before .before .before .before .distances .kept), s .pre .1 .listed)
+list-inside-requires c κs = let e = c .before .before .before .before .before .before .before .before .before .before .before .before .before .before .before .before .before .before .before .before .before .pre .1 in
+    (room-for _ _ _ _ (le-refl _) (e .distances) (c .before .before .before .before .distances .kept .1 .1 .1 .1 .1 .1 .1 .0), e .listed)
 
 -- src/lib.rt:619:9
 slice-reshare-prefix-add-places : tie.Need-slice-reshare-prefix-add-places
-slice-reshare-prefix-add-places c = omega (arith, c .before .before .before .before .before .before .before .before .before .before .before .before .before .before .before .before .before .before .before .before .before .before .before .before .before .before .pre .1, c .before .before .before .before .list-inside .ensures .0, c .before .before .before .before .list-inside .kept, c .before .before .before .before .before .before .before .before .before .distances .kept)
+slice-reshare-prefix-add-places c = room-for _ _ _ _ (c .before .before .before .before .list-inside .ensures .0) (c .before .before .before .before .before .before .before .before .before .before .before .before .before .before .before .before .before .before .before .before .before .before .before .before .before .before .pre .1 .listed) (c .before .before .before .before .list-inside .kept .1 .1 .1 .0)
 
 -- src/lib.rt:619:9
 slice-aggregate-add-places : tie.Need-slice-aggregate-add-places
-slice-aggregate-add-places c = sym (length-take-le _ _ (omega (arith, c .before .before .before .before .before .before .before .before .before .before .before .before .before .before .before .before .before .before .before .before .before .before .before .before .before .before .before .pre .1, c .before .before .before .before .before .list-inside .ensures .0, c .before .before .before .before .before .list-inside .kept, c .before .before .before .before .before .before .before .before .before .before .distances .kept)))
+slice-aggregate-add-places c = sym (length-take-le _ _ (room-for _ _ _ _ (c .before .before .before .before .before .list-inside .ensures .0) (c .before .before .before .before .before .before .before .before .before .before .before .before .before .before .before .before .before .before .before .before .before .before .before .before .before .before .before .pre .1 .listed) (c .before .before .before .before .before .list-inside .kept .1 .1 .1 .0)))
 
 -- src/lib.rt:620:9
 slice-relend-prefix-add-places : tie.Need-slice-relend-prefix-add-places
-slice-relend-prefix-add-places c = omega (arith, c .before .before .before .before .before .before .before .before .before .before .before .before .before .before .before .before .before .before .before .before .before .before .before .before .before .before .before .pre .1, c .before .before .before .before .before .list-inside .ensures .0, c .before .before .before .before .before .list-inside .kept, c .before .before .before .before .before .before .before .before .before .before .distances .kept)
+slice-relend-prefix-add-places c = room-for _ _ _ _ (c .before .before .before .before .before .list-inside .ensures .0) (c .before .before .before .before .before .before .before .before .before .before .before .before .before .before .before .before .before .before .before .before .before .before .before .before .before .before .before .pre .1 .distances) (c .before .before .before .before .before .list-inside .kept .1 .1 .0 ∙ c .before .before .before .before .before .before .before .before .before .before .distances .kept .1 .1 .1 .1 .1 .1 .1 .0)
 
 -- src/lib.rt:620:9
 slice-aggregate-add-places-2 : tie.Need-slice-aggregate-add-places-2
-slice-aggregate-add-places-2 c = sym (length-take-le _ _ (omega (arith, c .before .before .before .before .before .before .before .before .before .before .before .before .before .before .before .before .before .before .before .before .before .before .before .before .before .before .before .before .pre .1, c .before .before .before .before .before .before .list-inside .ensures .0, c .before .before .before .before .before .before .list-inside .kept, c .before .before .before .before .before .before .before .before .before .before .before .distances .kept)))
+slice-aggregate-add-places-2 c = sym (length-take-le _ _ (room-for _ _ _ _ (c .before .before .before .before .before .before .list-inside .ensures .0) (c .before .before .before .before .before .before .before .before .before .before .before .before .before .before .before .before .before .before .before .before .before .before .before .before .before .before .before .before .pre .1 .distances) (c .before .before .before .before .before .before .list-inside .kept .1 .1 .0 ∙ c .before .before .before .before .before .before .before .before .before .before .before .distances .kept .1 .1 .1 .1 .1 .1 .1 .0)))
 
 -- src/lib.rt:621:9
 slice-relend-prefix-add-places-2 : tie.Need-slice-relend-prefix-add-places-2
-slice-relend-prefix-add-places-2 c = omega (arith, c .before .before .before .before .before .before .before .before .before .before .before .before .before .before .before .before .before .before .before .before .before .before .before .before .before .before .before .before .pre .1, c .before .before .before .before .before .before .list-inside .ensures .0, c .before .before .before .before .before .before .list-inside .kept, c .before .before .before .before .before .before .before .before .before .before .before .distances .kept)
+slice-relend-prefix-add-places-2 c = room-for _ _ _ _ (c .before .before .before .before .before .before .list-inside .ensures .0) (c .before .before .before .before .before .before .before .before .before .before .before .before .before .before .before .before .before .before .before .before .before .before .before .before .before .before .before .before .pre .1 .bins) refl
 
 -- src/lib.rt:621:9
 slice-aggregate-add-places-3 : tie.Need-slice-aggregate-add-places-3
-slice-aggregate-add-places-3 c = sym (length-take-le _ _ (omega (arith, c .before .before .before .before .before .before .before .before .before .before .before .before .before .before .before .before .before .before .before .before .before .before .before .before .before .before .before .before .before .pre .1, c .before .before .before .before .before .before .before .list-inside .ensures .0, c .before .before .before .before .before .before .before .list-inside .kept, c .before .before .before .before .before .before .before .before .before .before .before .before .distances .kept)))
+slice-aggregate-add-places-3 c = sym (length-take-le _ _ (room-for _ _ _ _ (c .before .before .before .before .before .before .before .list-inside .ensures .0) (c .before .before .before .before .before .before .before .before .before .before .before .before .before .before .before .before .before .before .before .before .before .before .before .before .before .before .before .before .before .pre .1 .bins) refl))
 
 -- src/lib.rt:622:9
 slice-relend-prefix-add-places-3 : tie.Need-slice-relend-prefix-add-places-3
-slice-relend-prefix-add-places-3 c = omega (arith, c .before .before .before .before .before .before .before .before .before .before .before .before .before .before .before .before .before .before .before .before .before .before .before .before .before .before .before .before .before .pre .1, c .before .before .before .before .before .before .before .list-inside .ensures .0, c .before .before .before .before .before .before .before .list-inside .kept, c .before .before .before .before .before .before .before .before .before .before .before .before .distances .kept)
+slice-relend-prefix-add-places-3 c = room-for _ _ _ _ (c .before .before .before .before .before .before .before .list-inside .ensures .0) (c .before .before .before .before .before .before .before .before .before .before .before .before .before .before .before .before .before .before .before .before .before .before .before .before .before .before .before .before .before .pre .1 .values) refl
 
 -- src/lib.rt:622:9
 slice-aggregate-add-places-4 : tie.Need-slice-aggregate-add-places-4
-slice-aggregate-add-places-4 c = sym (length-take-le _ _ (omega (arith, c .before .before .before .before .before .before .before .before .before .before .before .before .before .before .before .before .before .before .before .before .before .before .before .before .before .before .before .before .before .before .pre .1, c .before .before .before .before .before .before .before .before .list-inside .ensures .0, c .before .before .before .before .before .before .before .before .list-inside .kept, c .before .before .before .before .before .before .before .before .before .before .before .before .before .distances .kept)))
+slice-aggregate-add-places-4 c = sym (length-take-le _ _ (room-for _ _ _ _ (c .before .before .before .before .before .before .before .before .list-inside .ensures .0) (c .before .before .before .before .before .before .before .before .before .before .before .before .before .before .before .before .before .before .before .before .before .before .before .before .before .before .before .before .before .before .pre .1 .values) refl))
 
 -- src/lib.rt:611:5
 add-places-requires : tie.Need-add-places-requires
@@ -66,13 +68,13 @@ add-places-requires c κs = let s = c .before .before .before .before .before .b
     let k = i .result in
     let r = s .pre .0 .points in
     let e = s .pre .1 in
-    let l = sym (length-take-le k (i .last .1 .1 .1 .0) (omega (arith, e .listed, i .ensures .0, i .kept))) in (
+    let l = sym (length-take-le k (i .last .1 .1 .1 .0) (room-for _ _ _ _ (c .before .before .before .before .before .before .before .before .before .list-inside .ensures .0) (c .before .before .before .before .before .before .before .before .before .before .before .before .before .before .before .before .before .before .before .before .before .before .before .before .before .before .before .before .before .before .before .pre .1 .listed) (c .before .before .before .before .before .before .before .before .before .list-inside .kept .1 .1 .1 .0))) in (
       s .pre .0 .tables,
       (
         record { few = r .few; inside = r .inside; limit = r .limit; values = r .values; weights = r .weights },
         (
-          kept-listed (x .row .tables .edges .first) (x .row .tables .edges .last) (d .last .1 .1 .1 .1 .1 .1 .1 .0) (x .row .m) k (i .last .1 .1 .1 .0) (i .ensures .0) (omega (arith, e .listed, i .kept)) (i .ensures .1),
-          (length-take-le k (i .last .1 .1 .0) (omega (arith, e .distances, i .ensures .0, i .kept, d .kept)) ∙ l, length-take-le k (x .found .now) (omega (arith, e .bins, i .ensures .0)) ∙ l, length-take-le k (x .value-found .now) (omega (arith, e .values, i .ensures .0)) ∙ l),
+          kept-listed (x .row .tables .edges .first) (x .row .tables .edges .last) (d .last .1 .1 .1 .1 .1 .1 .1 .0) (x .row .m) k (i .last .1 .1 .1 .0) (i .ensures .0) (room-for _ _ _ _ (le-refl _) (e .listed) (i .kept .1 .1 .1 .0)) (i .ensures .1),
+          (length-take-le k (i .last .1 .1 .0) (room-for _ _ _ _ (c .before .before .before .before .before .before .before .before .before .list-inside .ensures .0) (c .before .before .before .before .before .before .before .before .before .before .before .before .before .before .before .before .before .before .before .before .before .before .before .before .before .before .before .before .before .before .before .pre .1 .distances) (c .before .before .before .before .before .before .before .before .before .list-inside .kept .1 .1 .0 ∙ c .before .before .before .before .before .before .before .before .before .before .before .before .before .before .distances .kept .1 .1 .1 .1 .1 .1 .1 .0)) ∙ l, length-take-le k (x .found .now) (room-for _ _ _ _ (c .before .before .before .before .before .before .before .before .before .list-inside .ensures .0) (c .before .before .before .before .before .before .before .before .before .before .before .before .before .before .before .before .before .before .before .before .before .before .before .before .before .before .before .before .before .before .before .pre .1 .bins) refl) ∙ l, length-take-le k (x .value-found .now) (room-for _ _ _ _ (c .before .before .before .before .before .before .before .before .before .list-inside .ensures .0) (c .before .before .before .before .before .before .before .before .before .before .before .before .before .before .before .before .before .before .before .before .before .before .before .before .before .before .before .before .before .before .before .pre .1 .values) refl) ∙ l),
         ),
       ),
     )
