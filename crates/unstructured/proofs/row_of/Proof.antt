@@ -1,4 +1,4 @@
-use mathlib.Core.Path.{ap}
+use Prim.Native.Nat.{_-_}
 use borrow.Author.Needs.{needs}
 use Rattle.unstructured.proofs.row_of.Statement.{statement}
 use Rattle.unstructured.proofs.row_of.Tie as tie
@@ -16,7 +16,9 @@ sub-t7 c = search needs
 
 -- src/lib.rt:704:1
 returns : tie.Need-returns
-returns c = cc
+returns c = let x = c .before .before .before .before .args in
+    let e = c .before .first-partner .ensures in
+    λ i. record { setup = x .plan .setup; tables = x .plan .tables; a = x .a; stride = x .plan .«b_stride»; j = e i; m = x .plan .«b_n» - e i }
 
 pub row-of-spec : {M : Type 1} → statement M
 row-of-spec = tie.close (tie.spec first-partner-requires sub-t7 returns)
