@@ -31,7 +31,8 @@ add-scratch-requires c κs = search needs
 
 -- src/lib.rt:945:1
 same-length : tie.Need-same-length
-same-length c = ⊎-elim (λ p. ap length (p .5) ∙ p .2 .kept .1 .1 .1 .1 .1 .1 .1 .1 .1 .0) (λ p. ap length (p .5) ∙ p .2 .kept .1 .1 .1 .1 .1 .1 .1 .1 .1 .0) (c .before .before .before .before .before .if1 .came)
+same-length c = let h : length (c .before .before .before .before .before .if1 .scratch) ≡ length (c .before .before .before .before .before .before .before .before .before .before .before .before .before .before .before .before .before .before .args .scratch .now) = ⊎-elim (λ p. ap length (p .5) ∙ p .2 .kept .1 .1 .1 .1 .1 .1 .1 .1 .1 .0) (λ p. ap length (p .5) ∙ p .2 .kept .1 .1 .1 .1 .1 .1 .1 .1 .1 .0) (c .before .before .before .before .before .if1 .came) in
+    search (needs, h)
 
 -- src/lib.rt:945:1
 same-length-2 : tie.Need-same-length-2
