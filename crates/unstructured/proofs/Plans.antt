@@ -1,7 +1,7 @@
 -- Rows of a plan and parts of rows are ready where the plan and the row are.
 use mathlib.Core.Path.{_≡_, sym, ap, subst, _∙_}
 use mathlib.Core.List.{List}
-use Prim.Native.Nat.{ℕ, _+_, _-_, _<_, _≤_}
+use Prim.Native.Nat.{ℕ, _-_, _<_, _≤_}
 use native.Mathlib.Omega.{arith}
 use lib.Ieee.{Float}
 use Rattle.definitions.specs.Points.{strideOr}

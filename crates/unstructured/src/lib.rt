@@ -30,7 +30,6 @@ ghost use Rattle.edge_table.specs.Tabled.{Tabled, TabledValues};
 ghost use Rattle.parallel_serial.specs.Drive.{zeroPack, addedScratch};
 ghost use Rattle.parallel_serial.proofs.Refusals.{Drivable};
 ghost use Rattle.unstructured_points.specs.Readings.{pointsOf, thePoint};
-ghost use Rattle.unstructured_points.specs.Sets.{setsFor};
 ghost use Rattle.unstructured.specs.Readings.{requestRun, autoRun, crossRun};
 ghost use Rattle.unstructured.specs.Pairs.{thePair, pointIn, Holds, Readable, Valued, Held, firstPartner, builtPair, pairAdded, pairStep};
 ghost use Rattle.unstructured.specs.Plans.{RowReady, theRow, partOf, rowFor, PlanReady, planFilled, Planned};

@@ -6,7 +6,6 @@ use lib.ListN.{take}
 use lib.Seq.{length-take-le}
 use Rattle.unstructured_points.specs.Readings.{thePoint}
 use Rattle.unstructured.specs.Pairs.{pointIn}
-use Rattle.unstructured.specs.Batches.{secondOf}
 use Rattle.unstructured.proofs.Batches.{kept-listed, batch-row, second-is}
 use borrow.Author.Needs.{needs}
 use Rattle.unstructured.proofs.add_batch.Statement.{statement}

@@ -3,7 +3,7 @@ use Rattle.unstructured.specs.declared.Row.{Row}
 use Rattle.unstructured.specs.Plans.{theRow}
 use Rattle.unstructured.proofs.Plans.{part-ready, part-rooms}
 use mathlib.Core.Path.{_≡_, refl, _∙_}
-use Prim.Native.Nat.{_+_, _-_, _≤_, zero-le}
+use Prim.Native.Nat.{_+_, _-_}
 use native.Mathlib.Omega.{arith}
 use lib.ListN.{length}
 use Rattle.unstructured_points.specs.Readings.{thePoint}

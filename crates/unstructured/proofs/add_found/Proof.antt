@@ -1,5 +1,5 @@
 use mathlib.Core.Logic.{⊎-elim}
-use mathlib.Core.Path.{sym, _∙_, subst}
+use mathlib.Core.Path.{subst}
 use Rattle.reducer.specs.declared.Reducer.{Reducer}
 use Rattle.reducer.specs.Readings.{readingOf}
 use Rattle.edge_table.specs.Tabled.{TabledValues}
