@@ -1,4 +1,5 @@
 pub mod Rules
 pub mod Loops
+pub mod Plans
 pub mod Runs
 pub mod Batches

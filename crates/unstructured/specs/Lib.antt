@@ -1,3 +1,4 @@
 pub mod Readings
 pub mod Pairs
 pub mod Batches
+pub mod Plans
