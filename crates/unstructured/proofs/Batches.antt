@@ -33,7 +33,7 @@ use Rattle.reducer.specs.Readings.{opOf, theDatum}
 use Rattle.reducer.specs.Consume.{reducerSize, builtBins, builtBin, hasRoom, addIn, consumedAt, consumed}
 use Rattle.reducer.proofs.Placewise.{kept-bin}
 use Rattle.edge_table.specs.declared.Table.{Table}
-use Rattle.edge_table.specs.Table.{tableBin}
+use Rattle.edge_table.specs.Table.{bit, flagOf, tableBin}
 use Rattle.edge_batch.specs.Batch.{numberOr, foundOf, numberIn}
 use Rattle.edge_table.specs.Tabled.{EndsOf, Tabled}
 use Rattle.edge_batch.proofs.Batch.{found-bins, indexIn, index-number, index-bin, inside-bin}
@@ -43,18 +43,7 @@ use Rattle.unstructured.specs.declared.Row.{Row}
 use Rattle.unstructured.specs.declared.Pair.{Pair}
 use Rattle.unstructured.specs.declared.Pair.the-variants.{Kept, Dropped}
 use Rattle.unstructured.specs.Pairs.{thePair, pointIn, Valued, builtPair, pairAdded, pairStep, rowAdded}
-use Rattle.unstructured.specs.Batches.{Listed, Parts, readingIn, secondOf, bit, inside, also, keptBelow, picked, numberedPair, pairPlaced, pairValues, placedTo, weightDatum, weightsTo, valueNumbers, foundAdded, placesAdded}
-
--- ---- bits
-pub bit-le : (t : Bool) → bit t ≤ 1
-bit-le true = le-refl 1
-bit-le false = zero-le
-
-pub bits-le : (a b : Bool) → (1 - bit a) * (1 - bit b) ≤ 1
-bits-le true true = zero-le
-bits-le true false = zero-le
-bits-le false true = zero-le
-bits-le false false = le-refl 1
+use Rattle.unstructured.specs.Batches.{Listed, Parts, readingIn, secondOf, also, keptBelow, picked, numberedPair, pairPlaced, pairValues, placedTo, weightDatum, weightsTo, valueNumbers, foundAdded, placesAdded}
 
 -- ---- one more place stored
 pub stored-next : {A : Type 0} (o : A) (d : List A) (e : ℕ) (v : A) (g : ℕ → A) → e < length d → v ≡ g e → ((x : ℕ) → x < e → getD d x o ≡ g x)
@@ -74,7 +63,7 @@ one-more l c zero e k h r p = rw add-zero (take-set-le c l c e (le-refl c) ∙ p
 one-more l c (suc zero) e k h r p = rw add-one (take-suc-set l c e r ∙ ap (λ (x : List _). x ++ (e ∷ [])) p)
 one-more l c (suc (suc w)) e k h r p = absurd (not-suc-le-zero (le-of-suc-le-suc h))
 
-pub kept-next : (first last : Float) (d : List Float) (e : ℕ) → keptBelow first last d (e + 1) ≡ also (inside first last (getD d e nan)) (keptBelow first last d e) e
+pub kept-next : (first last : Float) (d : List Float) (e : ℕ) → keptBelow first last d (e + 1) ≡ also (flagOf first last (getD d e nan)) (keptBelow first last d e) e
 unfolding keptBelow
 kept-next first last d e = rw add-one
 
@@ -83,10 +72,10 @@ map-also f zero l e = refl
 map-also f (suc w) l e = map-append f l (e ∷ [])
 
 pub picked-next : (first last : Float) (d : List Float) (e : ℕ)
-    → picked d (keptBelow first last d (e + 1)) ≡ also (inside first last (getD d e nan)) (picked d (keptBelow first last d e)) (getD d e nan)
+    → picked d (keptBelow first last d (e + 1)) ≡ also (flagOf first last (getD d e nan)) (picked d (keptBelow first last d e)) (getD d e nan)
 unfolding picked
 picked-next first last d e =
-    ap (map (λ x. getD d x nan)) (kept-next first last d e) ∙ map-also (λ x. getD d x nan) (inside first last (getD d e nan)) (keptBelow first last d e) e
+    ap (map (λ x. getD d x nan)) (kept-next first last d e) ∙ map-also (λ x. getD d x nan) (flagOf first last (getD d e nan)) (keptBelow first last d e) e
 
 -- what holds of each listed place
 snoc-all : (P : ℕ → Type 0) (l : List ℕ) (e : ℕ) → ((q : ℕ) → q < length l → P (getD l q 0)) → P e → (q : ℕ) → q < length (l ++ (e ∷ [])) → P (getD (l ++ (e ∷ [])) q 0)
@@ -270,7 +259,7 @@ module _ (setup : Setup) (list valueEdges : List Float) (a : points.Point) (g : 
   module _ (first last : Float) (ends : EndsOf (setup .edges) list first last) (d : List Float) (j : ℕ) where
     -- one place more, listed or skipped
     also-step : (m : ℕ) (x : Float) (l : List ℕ) (s : List Float) → x ≡ squaredDiffNorm a (g (j + m))
-        → runOn (placeStep j) (also (inside first last x) l m) s ≡ placeStep j m (runOn (placeStep j) l s)
+        → runOn (placeStep j) (also (flagOf first last x) l m) s ≡ placeStep j m (runOn (placeStep j) l s)
     also-step m x l s e = go (lt x first) (le last x) refl refl
       where
         o : List Float

@@ -17,6 +17,7 @@ use Rattle.reducer.specs.declared.Reducer as declared
 use Rattle.reducer.specs.declared.Reducer.the-variants.{Comp0Mean, ComponentSumMean, ComponentSumHistogram}
 use Rattle.reducer.specs.Readings.{opOf}
 use Rattle.reducer.specs.Consume.{builtBins, consumedAt}
+use Rattle.edge_table.specs.Table.{flagOf}
 use Rattle.edge_batch.specs.Batch.{numberIn}
 use Rattle.edge_table.specs.Tabled.{Tabled, TabledValues}
 use Rattle.unstructured.specs.declared.Setup.{Setup}
@@ -38,14 +39,6 @@ pub record Rooms (m : ℕ) (d : List Float) (places found valueFound : List ℕ)
   pub values : m ≤ length valueFound
 
 -- ---- the places of a batch
-abbrev pub bit : Bool → ℕ
-bit true = 1
-bit false = 0
-
--- 0 outside the ends, else 1
-abbrev pub inside : Float → Float → Float → ℕ
-inside first last x = (1 - bit (lt x first)) * (1 - bit (le last x))
-
 abbrev pub also : {A : Type 0} → ℕ → List A → A → List A
 also zero l e = l
 also (suc n) l e = l ++ (e ∷ [])
@@ -53,7 +46,7 @@ also (suc n) l e = l ++ (e ∷ [])
 -- the places below m that are not outside, in order
 unfoldable pub keptBelow : Float → Float → List Float → ℕ → List ℕ
 keptBelow first last d zero = []
-keptBelow first last d (suc e) = also (inside first last (getD d e nan)) (keptBelow first last d e) e
+keptBelow first last d (suc e) = also (flagOf first last (getD d e nan)) (keptBelow first last d e) e
 
 -- what d has at the places
 unfoldable pub picked : List Float → List ℕ → List Float

@@ -33,7 +33,7 @@ ghost use Rattle.unstructured_points.specs.Readings.{pointsOf, thePoint};
 ghost use Rattle.unstructured.specs.Readings.{requestRun, autoRun, crossRun};
 ghost use Rattle.unstructured.specs.Pairs.{thePair, pointIn, Holds, Readable, Valued, Held, firstPartner, builtPair, pairAdded, pairStep};
 ghost use Rattle.unstructured.specs.Plans.{RowReady, theRow, partOf, rowFor, PlanReady, planFilled, Planned};
-ghost use Rattle.unstructured.specs.Batches.{TabledRun, Rooms, Listed, Parts, readingIn, inside, keptBelow, picked, numberedPair, pairPlaced, pairValues, placedTo, weightsTo, foundAdded, placesAdded, secondOf};
+ghost use Rattle.unstructured.specs.Batches.{TabledRun, Rooms, Listed, Parts, readingIn, keptBelow, picked, numberedPair, pairPlaced, pairValues, placedTo, weightsTo, foundAdded, placesAdded, secondOf};
 
 // What a pair yields: a bin, three component values and a weight, or nothing.
 pub enum Pair {
@@ -178,13 +178,6 @@ fn distances(
     }
 }
 
-// 0 where the value is outside the ends of the edges, else 1.
-fn flag(table: Table, value: f64) -> usize
-    ensures { λ r. ⌜ r ≡ inside (table .first) (table .last) value ⌝ }
-{
-    (1 - ((value < table.first) as usize)) * (1 - ((table.last <= value) as usize))
-}
-
 // The places of the first m distances that are not outside, in order, and their distances at the front of d; without a branch.
 fn list_inside(table: Table, m: usize, d: &mut [f64], places: &mut [usize]) -> usize
     requires { ⌜ (m ≤ length (now d)) × (m ≤ length (now places)) ⌝ }
@@ -197,7 +190,7 @@ fn list_inside(table: Table, m: usize, d: &mut [f64], places: &mut [usize]) -> u
         let value = d[e];
         places[c] = e;
         d[c] = value;
-        c = c + flag(table, value);
+        c = c + edge_table::flag(table, value);
         e += 1;
     }
     c

@@ -6,13 +6,14 @@ use lib.ListN.{length, take, getD, set, length-set}
 use lib.Ieee as Ieee
 use lib.Ieee.{nan}
 use borrow.Author.Needs.{needs}
-use Rattle.unstructured.specs.Batches.{keptBelow, picked, inside}
-use Rattle.unstructured.proofs.Batches.{bits-le, one-more, kept-next, picked-next, above-stored}
+use Rattle.edge_table.specs.Table.{flagOf}
+use Rattle.unstructured.specs.Batches.{keptBelow, picked}
+use Rattle.unstructured.proofs.Batches.{one-more, kept-next, picked-next, above-stored}
 use Rattle.unstructured.proofs.list_inside.Statement.{statement}
 use Rattle.unstructured.proofs.list_inside.Tie as tie
 use Rattle.unstructured.proofs.list_inside.Reads as reads
 use Rattle.unstructured.proofs.list_inside.Lts as lts
-use Rattle.unstructured.proofs.flag.Reads as flag-reads
+use Rattle.edge_table.proofs.flag.Reads as flag-reads
 
 abbrev Inv-loop : tie.InvT-loop
 Inv-loop table m d₀ places₀ c₀ e₀ d places c e =
@@ -57,9 +58,7 @@ flag-requires c κs = search needs
 
 -- src/lib.rt:277:13
 add-c : tie.Need-add-c Inv-loop μ-loop
-add-c c = let x = c .before .before .before .before .before .before .args in
-    let v = getD (c .before .before .before .loop .d) (c .before .before .before .loop .e) nan in
-    omega (arith, c .before .before .before .before .before .before, c .flag .ensures, bits-le (Ieee.lt v (x .table .first)) (Ieee.le (x .table .last) v))
+add-c c = omega (arith, c .before .before .before .before .before .before, c .flag .ensures .1)
 
 -- src/lib.rt:278:9
 add-e : tie.Need-add-e Inv-loop μ-loop
@@ -75,9 +74,9 @@ loop-again c = let x = c .before .before .before .before .before .before .args i
     let t = c .before .before .before .loop in
     let v = getD (x .d .now) (t .e) nan in
     let same : getD (t .d) (t .e) nan ≡ v = t .inv .6 (t .e) (le-refl (t .e)) in
-    let w = inside (x .table .first) (x .table .last) v in
-    let f : c .flag .result ≡ w = c .flag .ensures ∙ ap (inside (x .table .first) (x .table .last)) same in
-    let h : w ≤ 1 = bits-le (Ieee.lt v (x .table .first)) (Ieee.le (x .table .last) v) in (
+    let w = flagOf (x .table .first) (x .table .last) v in
+    let f : c .flag .result ≡ w = c .flag .ensures .0 ∙ ap (flagOf (x .table .first) (x .table .last)) same in
+    let h : w ≤ 1 = omega (arith, c .flag .ensures .1, f) in (
       omega arith,
       omega (arith, f, h),
       search needs,
