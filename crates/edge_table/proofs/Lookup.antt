@@ -32,7 +32,7 @@ use Rattle.reducer.specs.declared.Reducer.the-variants.{Comp0Mean, ComponentSum
 use Rattle.reducer.specs.Readings.{edgesOf, kindOf}
 use Rattle.reducer.specs.Consume.{madeEdges, made, builtBin}
 use Rattle.edge_table.specs.declared.Table.{Table}
-use Rattle.edge_table.specs.Table.{tableOf, enclosed, nonzero, holds, located, locatedBin, outsideOf, edgeBin, tableBin, valueTableOf}
+use Rattle.edge_table.specs.Table.{tableOf, enclosed, nonzero, shown, holds, located, locatedBin, outsideOf, edgeBin, tableBin, valueTableOf}
 use Rattle.edge_table.specs.Tabled.{Searchable, Usable, EndsOf, Tabled, UsableValues, TabledValues}
 use Rattle.edge_table.proofs.Order.{lt-self, lt-finite, eq-finite, le-lt}
 
@@ -168,6 +168,12 @@ module _ (es : List Float) (u : Searchable es) (x : Float) (f : fits binary64 x 
       let o : outside es x ≡ false = rw (finite-number x (m .0), above-first g w (m .1) (m .0), below-last g w (q .1) (m .0)) in
       keyed-bin es u x f g w (m .1) (key-less x (at es (g + 1)) (subst T (sym f) tt) (u .held (g + 1)) (m .0) b (q .1)) o
 
+  shown-bin : (g : ℕ) → shown es x g ≡ true → some g ≡ builtBin Irregular es x
+  unfolding shown
+  shown-bin g c =
+      let p = and-true (nonzero x) (enclosed es x g) c in
+      enclosed-bin g (p .0) (p .1)
+
 -- ---- the search by quarters: a number is not outside the ends
 module _ (es : List Float) (u : Searchable es) (x : Float) (f : fits binary64 x ≡ true) (inside : isNan x ≡ false → outside es x ≡ false) where
   pub held-bin : (g : ℕ) → holds es x g ≡ true → some g ≡ builtBin Irregular es x
@@ -180,12 +186,7 @@ module _ (es : List Float) (u : Searchable es) (x : Float) (f : fits binary64 x 
 
   pub located-found : locatedBin es x ≡ builtBin Irregular es x
   unfolding locatedBin
-  located-found = tested (nonzero x && enclosed es x (located es x)) (located es x) _ _ both (tested (holds es x (located es x)) (located es x) _ _ (held-bin (located es x)) refl)
-    where
-      both : (nonzero x && enclosed es x (located es x)) ≡ true → some (located es x) ≡ builtBin Irregular es x
-      both c =
-          let p = and-true (nonzero x) (enclosed es x (located es x)) c in
-          enclosed-bin es u x f (located es x) (p .0) (p .1)
+  located-found = tested (shown es x (located es x)) (located es x) _ _ (shown-bin es u x f (located es x)) (tested (holds es x (located es x)) (located es x) _ _ (held-bin (located es x)) refl)
 
 -- ---- a table's edges
 module _ (es : List Float) (x : Float) (f : fits binary64 x ≡ true) (table : Table) where

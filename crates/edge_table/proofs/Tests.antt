@@ -1,7 +1,7 @@
 -- Each way through the tests of a bin, the search and a hint's trial, and the definition that its answer meets.
 use mathlib.Core.Path.{_≡_, refl, sym, _∙_}
 use mathlib.Core.Option.{Option, some}
-use mathlib.Core.Bool.{Bool, true, false, _&&_}
+use mathlib.Core.Bool.{Bool, true, false}
 use mathlib.Core.List.{List}
 use Prim.Native.Nat.{ℕ, _+_, _-_, _*_, _/_, _%_, _^_, _<_, _≤_}
 use native.Mathlib.Omega.{arith}
@@ -14,7 +14,7 @@ use Rattle.floats.specs.Order.{orderKey}
 use Rattle.reducer.specs.declared.BuiltEdges.the-variants.{Irregular}
 use Rattle.reducer.specs.Consume.{builtBin}
 use Rattle.edge_table.specs.declared.Table.{Table}
-use Rattle.edge_table.specs.Table.{bit, endOf, enclosed, nonzero, holds, stepUp, climb, located, locatedBin, flagOf, pastEnd, placeOf, nearHint, sureAt}
+use Rattle.edge_table.specs.Table.{bit, endOf, enclosed, nonzero, shown, holds, stepUp, climb, located, locatedBin, flagOf, pastEnd, placeOf, nearHint, sureAt}
 use Rattle.edge_table.proofs.Order.{le-not, lt-le}
 
 -- ---- the tests of a bin
@@ -70,27 +70,30 @@ module _ (list : List Float) (x : Float) where
   unfolding located
   located-many c d e r h p q s t = rw (lt-leb (length list) 33 h, ← p, ← q, ← s) t
 
--- ---- one value; g is the answer of `locate`, s of `is_enclosed`, t of `is_held`
-module _ (list : List Float) (x : Float) (g : ℕ) (e : g ≡ located list x) where
-  pub located-enclosed : (s : Bool) → nonzero x ≡ true → s ≡ enclosed list x g → s ≡ true → some g ≡ locatedBin list x
-  unfolding locatedBin
-  located-enclosed s z q h = rw (← e, z, ← q, h)
+module _ (list : List Float) (x : Float) (h : ℕ) where
+  pub shown-zero : nonzero x ≡ false → false ≡ shown list x h
+  unfolding shown
+  shown-zero z = rw z
 
-  -- it is a zero, or the edges do not enclose it
-  module _ (z : (nonzero x && enclosed list x g) ≡ false) (t : Bool) (k : t ≡ holds list x g) where
+  -- s is the answer of `is_enclosed`
+  pub shown-is : (s : Bool) → nonzero x ≡ true → s ≡ enclosed list x h → s ≡ shown list x h
+  unfolding shown
+  shown-is s z e = rw z e
+
+-- ---- one value; g is the answer of `locate`, s of `is_shown`, t of `is_held`
+module _ (list : List Float) (x : Float) (g : ℕ) (e : g ≡ located list x) (s : Bool) (q : s ≡ shown list x g) where
+  pub located-shown : s ≡ true → some g ≡ locatedBin list x
+  unfolding locatedBin
+  located-shown h = rw (← e, ← q, h)
+
+  module _ (a : s ≡ false) (t : Bool) (k : t ≡ holds list x g) where
     pub located-held : t ≡ true → some g ≡ locatedBin list x
     unfolding locatedBin
-    located-held h = rw (← e, z, ← k, h)
+    located-held h = rw (← e, ← q, a, ← k, h)
 
     pub located-plain : (o : Option ℕ) → t ≡ false → o ≡ builtBin Irregular list x → o ≡ locatedBin list x
     unfolding locatedBin
-    located-plain o h p = rw (← e, z, ← k, h) p
-
-  pub not-zero : nonzero x ≡ false → (nonzero x && enclosed list x g) ≡ false
-  not-zero z = rw z
-
-  pub not-enclosed : (s : Bool) → nonzero x ≡ true → s ≡ enclosed list x g → s ≡ false → (nonzero x && enclosed list x g) ≡ false
-  not-enclosed s z q h = rw (z, ← q, h)
+    located-plain o h p = rw (← e, ← q, a, ← k, h) p
 
 -- t is the edge that was read, w the answer of `step_up`
 module _ (list : List Float) (x t : Float) (h : ℕ) (e : t ≡ at list h) where

@@ -64,6 +64,9 @@ enclosed list x h = ltb h (length list - 1) && (le (at list h) x && lt x (at lis
 abbrev pub nonzero : Float → Bool
 nonzero x = ne x (ofBits binary64 0)
 
+unfoldable pub shown : List Float → Float → ℕ → Bool
+shown list x h = nonzero x && enclosed list x h
+
 -- x is a number, and the keys of bin h's edges enclose its own
 unfoldable pub holds : List Float → Float → ℕ → Bool
 holds list x h = not (isNan x) && ltb h (length list - 1) && leb (orderKey (at list h)) (orderKey x) && ltb (orderKey x) (orderKey (at list (h + 1)))
@@ -83,7 +86,7 @@ located list x =
 
 -- what the search by quarters finds, tested by the edges, then by the keys; else the plain lookup
 unfoldable pub locatedBin : List Float → Float → Option ℕ
-locatedBin list x = cond (nonzero x && enclosed list x (located list x)) (some (located list x)) (cond (holds list x (located list x)) (some (located list x)) (builtBin Irregular list x))
+locatedBin list x = cond (shown list x (located list x)) (some (located list x)) (cond (holds list x (located list x)) (some (located list x)) (builtBin Irregular list x))
 
 unfoldable pub outsideOf : Table → Float → Bool
 outsideOf table x = isNan x || lt x (table .first) || le (table .last) x

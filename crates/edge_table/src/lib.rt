@@ -8,7 +8,7 @@ ghost use lib.ListN.{length};
 ghost use Rattle.definitions.specs.Lists.{at};
 ghost use Rattle.floats.specs.Order.{orderKey};
 ghost use Rattle.bins.specs.Answers.{indexOf};
-ghost use Rattle.edge_table.specs.Table.{tableOf, placeOf, edgePlace, endOf, spread, binHinted, hintsOf, hintsFor, outsideOf, edgeBin, tableBin, noTable, valueTableOf, valueHintsFor, enclosed, holds, stepUp, climb, located, locatedBin, flagOf, pastEnd, nearHint, sureAt};
+ghost use Rattle.edge_table.specs.Table.{tableOf, placeOf, edgePlace, endOf, spread, binHinted, hintsOf, hintsFor, outsideOf, edgeBin, tableBin, noTable, valueTableOf, valueHintsFor, enclosed, shown, holds, stepUp, climb, located, locatedBin, flagOf, pastEnd, nearHint, sureAt};
 
 // Ends of the edges; a value's place of hints is scale times it plus offset.
 pub struct Table {
@@ -138,6 +138,16 @@ fn is_enclosed(list: &[f64], x: f64, h: usize) -> bool
     false
 }
 
+// The edges show that bin h holds x, if that is no zero.
+fn is_shown(list: &[f64], x: f64, h: usize) -> bool
+    ensures { λ r. ⌜ r ≡ shown (now (list .entry)) x h ⌝ }
+{
+    if x != 0.0 {
+        return is_enclosed(list, x, h);
+    }
+    false
+}
+
 fn is_held(list: &[f64], x: f64, h: usize) -> bool
     ensures { λ r. ⌜ r ≡ holds (now (list .entry)) x h ⌝ }
 {
@@ -193,10 +203,8 @@ fn located_bin(list: &[f64], x: f64) -> BinIndex
     ensures { λ r. ⌜ indexOf r ≡ locatedBin (now (list .entry)) x ⌝ }
 {
     let h = locate(list, x);
-    if x != 0.0 {
-        if is_enclosed(list, x, h) {
-            return BinIndex::At(h);
-        }
+    if is_shown(list, x, h) {
+        return BinIndex::At(h);
     }
     if is_held(list, x, h) {
         return BinIndex::At(h);

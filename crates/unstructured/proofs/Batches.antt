@@ -35,15 +35,14 @@ use Rattle.reducer.proofs.Placewise.{kept-bin}
 use Rattle.edge_table.specs.declared.Table.{Table}
 use Rattle.edge_table.specs.Table.{bit, flagOf, tableBin}
 use Rattle.edge_batch.specs.Batch.{numberOr, foundOf, numberIn}
-use Rattle.edge_table.specs.Tabled.{EndsOf, Tabled}
+use Rattle.edge_table.specs.Tabled.{EndsOf, Tabled, TabledValues}
 use Rattle.edge_batch.proofs.Batch.{found-bins, indexIn, index-number, index-bin, inside-bin}
 use Rattle.edge_table.proofs.Lookup.{bin-low, bin-high, found-bin}
 use Rattle.unstructured.specs.declared.Setup.{Setup}
-use Rattle.unstructured.specs.declared.Row.{Row}
 use Rattle.unstructured.specs.declared.Pair.{Pair}
 use Rattle.unstructured.specs.declared.Pair.the-variants.{Kept, Dropped}
-use Rattle.unstructured.specs.Pairs.{thePair, pointIn, Valued, builtPair, pairAdded, pairStep, rowAdded}
-use Rattle.unstructured.specs.Batches.{Listed, Parts, readingIn, secondOf, also, keptBelow, picked, numberedPair, pairPlaced, pairValues, placedTo, weightDatum, weightsTo, valueNumbers, foundAdded, placesAdded}
+use Rattle.unstructured.specs.Pairs.{thePair, pointIn, Readable, builtPair, pairAdded, pairStep, rowAdded}
+use Rattle.unstructured.specs.Batches.{Listed, Parts, readingIn, also, keptBelow, picked, numberedPair, pairPlaced, pairValues, placedTo, weightDatum, weightsTo, valueNumbers, placesAdded}
 
 -- ---- one more place stored
 pub stored-next : {A : Type 0} (o : A) (d : List A) (e : ℕ) (v : A) (g : ℕ → A) → e < length d → v ≡ g e → ((x : ℕ) → x < e → getD d x o ≡ g x)
@@ -104,10 +103,6 @@ kept-listed first last d m c l h k e =
       few = omega (arith, length-take-le c l (omega arith));
       below = subst (λ (x : List ℕ). (q : ℕ) → q < length x → getD x q 0 < m) (sym e) (kept-all (λ x. x < m) first last d m (λ x p y z. p));
     }
-
--- c places of m are in a slice that has kept its length
-pub room-for : (c m n k : ℕ) → c ≤ m → m ≤ n → k ≡ n → c ≤ k
-room-for c m n k h r e = omega arith
 
 -- ---- numbers of bins
 module _ (n size b len : ℕ) where
@@ -277,25 +272,12 @@ module _ (setup : Setup) (list valueEdges : List Float) (a : points.Point) (g : 
     kept-row (suc m) s h =
         also-step m (getD d m nan) (keptBelow first last d m) s (h m (omega arith)) ∙ ap (placeStep j m) (kept-row m s (λ e p. h e (omega arith))) ∙ sym (row-snoc j m s)
 
-  -- n points done of what is left of a row of m from j on
-  pub batches-turn : (j m : ℕ) (z : List Float) (e n : ℕ) (s q : List Float) → e < m → n ≤ m - e → q ≡ rowAdded setup list valueEdges a g (j + e) n s
-      → rowAdded setup list valueEdges a g (j + e) (m - e) s ≡ z → rowAdded setup list valueEdges a g (j + (e + n)) (m - (e + n)) q ≡ z
-  batches-turn j m z e n s q h b k inv =
-      let c : m - e ≡ n + (m - (e + n)) = omega arith in
-      let f : j + (e + n) ≡ j + e + n = omega arith in
-      (λ i. rowAdded setup list valueEdges a g (f i) (m - (e + n)) (k i)) ∙ sym (row-join (j + e) n (m - (e + n)) s) ∙ sym (ap (λ (x : ℕ). rowAdded setup list valueEdges a g (j + e) x s) c) ∙ inv
-
-  pub row-starts : (j m : ℕ) (s : List Float) → rowAdded setup list valueEdges a g (j + 0) (m - 0) s ≡ rowAdded setup list valueEdges a g j m s
-  row-starts j m s =
-      let f : j + 0 ≡ j = omega arith in
-      let k : m - 0 ≡ m = omega arith in
-      λ i. rowAdded setup list valueEdges a g (f i) (k i) s
-
-  pub row-ends : (j m : ℕ) (z : List Float) (e : ℕ) (s : List Float) → m ≤ e → rowAdded setup list valueEdges a g (j + e) (m - e) s ≡ z → s ≡ z
-  unfolding rowAdded
-  row-ends j m z e s h inv =
-      let k : m - e ≡ 0 = omega arith in
-      rw k at inv
+  -- a batch done of a row
+  pub batches-turn : (n : ℕ) (z : List Float) (j m : ℕ) (s q : List Float) → j < n → m ≤ n - j → q ≡ rowAdded setup list valueEdges a g j m s
+      → rowAdded setup list valueEdges a g j (n - j) s ≡ z → rowAdded setup list valueEdges a g (j + m) (n - (j + m)) q ≡ z
+  batches-turn n z j m s q h b e inv =
+      let k : n - j ≡ m + (n - (j + m)) = omega arith in
+      ap (rowAdded setup list valueEdges a g (j + m) (n - (j + m))) e ∙ sym (row-join j m (n - (j + m)) s) ∙ sym (ap (λ (x : ℕ). rowAdded setup list valueEdges a g j x s) k) ∙ inv
 
   -- ---- a batch: its listed pairs are the row's
   module _ (table : Table) (tabled : Tabled (setup .edges) list table) (states : setup .«n_states» ≡ builtBins (setup .edges) (length list)) (d : List Float) (m j : ℕ) (distant : (e : ℕ) → e < m → getD d e nan ≡ squaredDiffNorm a (g (j + e))) (valueFound : List ℕ) where
@@ -331,7 +313,7 @@ module _ (setup : Setup) (list valueEdges : List Float) (a : points.Point) (g : 
         (λ r k. value-at (setup .reducer) r valueEdges value listed valueFound q h k)
 
     listed-row : (s : List Float) → placesAdded setup list valueEdges (a .rd) reading listed (picked d listed) valueFound s ≡ rowAdded setup list valueEdges a g j m s
-    unfolding placesAdded foundAdded picked pairValues
+    unfolding placesAdded picked pairValues
     listed-row s =
         placed-all setup (length valueEdges) (a .rd) reading listed (map number (map (λ e. getD d e nan) listed)) (valueNumbers (setup .reducer) valueEdges (map value listed) valueFound) (placeStep j) pair-placed s
         ∙ kept-row (table .first) (table .last) (tabled .ends) d j m s distant
@@ -341,35 +323,37 @@ module _ (setup : Setup) (list valueEdges : List Float) (a : points.Point) (g : 
         → q ≡ placesAdded setup list valueEdges (a .rd) r places x valueFound s → q ≡ rowAdded setup list valueEdges a g j m s
     batch-row r places x s q b e k h = h ∙ (λ i. placesAdded setup list valueEdges (a .rd) (b i) (e i) (k i) valueFound s) ∙ listed-row s
 
--- ---- parts of the slices: place e of a part from k on is place k + e, for every e
-module _ (row : Row) (v w c0 c1 c2 cw : List Float) (e0 : c0 ≡ drop (row .j) v) (e1 : c1 ≡ drop (row .stride + row .j) v) (e2 : c2 ≡ drop (2 * row .stride + row .j) v) (ew : cw ≡ drop (row .j) w) where
-  pub parts-held : Valued v w (row .j + row .m) (row .stride) → Parts (row .m) c0 c1 c2 cw
-  parts-held h =
+-- ---- parts of the slices: place e of `&l[k..]` is place k + e of l, for every e
+abbrev part : ℕ → List Float → List Float
+part k l = take (length l - k) (drop k l)
+
+part-is : (k : ℕ) (l : List Float) → part k l ≡ drop k l
+part-is k l = ap (λ (n : ℕ). take n (drop k l)) (sym (length-drop k l)) ∙ take-length (drop k l)
+
+part-length : (k : ℕ) (l : List Float) → length (part k l) ≡ length l - k
+part-length k l = ap length (part-is k l) ∙ length-drop k l
+
+part-at : (k : ℕ) (l : List Float) (e : ℕ) → at (part k l) e ≡ at l (k + e)
+part-at k l e = ap (λ (x : List Float). at x e) (part-is k l) ∙ getD-drop k l e nan
+
+-- m points from j on
+module _ (p v w : List Float) (stride j : ℕ) where
+  pub parts-held : (m : ℕ) → Readable p v w (j + m) stride → Parts m (part j v) (part (stride + j) v) (part (2 * stride + j) v) (part j w)
+  parts-held m h =
       record {
         few = omega (arith, h .few);
-        in0 = omega (arith, h .inside, h .values, ap length e0, length-drop (row .j) v);
-        in1 = omega (arith, h .inside, h .values, ap length e1, length-drop (row .stride + row .j) v);
-        in2 = omega (arith, h .inside, h .values, ap length e2, length-drop (2 * row .stride + row .j) v);
-        in-w = omega (arith, h .weights, ap length ew, length-drop (row .j) w);
+        in0 = omega (arith, h .inside, h .values, part-length j v);
+        in1 = omega (arith, h .inside, h .values, part-length (stride + j) v);
+        in2 = omega (arith, h .inside, h .values, part-length (2 * stride + j) v);
+        in-w = omega (arith, h .weights, part-length j w);
       }
 
-  pub parts-read : readingIn c0 c1 c2 cw ≡ secondOf row v w
-  unfolding readingIn secondOf pointIn
-  parts-read =
-      λ i e. record {
-        v0 = (ap (λ (x : List Float). at x e) e0 ∙ getD-drop (row .j) v e nan) i;
-        v1 = (ap (λ (x : List Float). at x e) e1 ∙ later (row .stride) e) i;
-        v2 = (ap (λ (x : List Float). at x e) e2 ∙ later (2 * row .stride) e) i;
-        w = (ap (λ (x : List Float). at x e) ew ∙ getD-drop (row .j) w e nan) i;
-      }
+  pub parts-read : readingIn (part j v) (part (stride + j) v) (part (2 * stride + j) v) (part j w) ≡ (λ (e : ℕ). pointIn p v w stride (j + e) .rd)
+  unfolding readingIn pointIn
+  parts-read = λ i e. record { v0 = part-at j v e i; v1 = later stride e i; v2 = later (2 * stride) e i; w = part-at j w e i }
     where
-      later : (k e : ℕ) → at (drop (k + row .j) v) e ≡ at v (k + (row .j + e))
-      later k e = getD-drop (k + row .j) v e nan ∙ ap (at v) (omega arith)
-
--- the point that is read there has a position besides
-pub second-is : (row : Row) (p v w : List Float) → secondOf row v w ≡ (λ (e : ℕ). pointIn p v w (row .stride) (row .j + e) .rd)
-unfolding secondOf pointIn
-second-is row p v w = refl
+      later : (k e : ℕ) → at (part (k + j) v) e ≡ at v (k + (j + e))
+      later k e = part-at (k + j) v e ∙ ap (at v) (omega arith)
 
 -- ---- values
 module _ (x : Reading) (r : ℕ → Reading) (op : PairOperation) where
@@ -385,6 +369,33 @@ module _ (x : Reading) (r : ℕ → Reading) (op : PairOperation) where
   values-fit [] i = nan-fits binary64
   values-fit (p ∷ l) zero = add-fits binary64 _ _
   values-fit (p ∷ l) (suc i) = values-fit l i
+
+-- ---- lookups
+module _ (kind : Reducer) (edges : List Float) (found : List ℕ) (x : List Float) where
+  pub value-mean0 : kind ≡ Comp0Mean → found ≡ valueNumbers kind edges x found
+  unfolding valueNumbers
+  value-mean0 h = rw h
+
+  pub value-mean : kind ≡ ComponentSumMean → found ≡ valueNumbers kind edges x found
+  unfolding valueNumbers
+  value-mean h = rw h
+
+  -- y is what the values were written to, q what the lookups left
+  pub value-found : (e : BuiltEdges) (hints : List ℕ) (table : Table) (y : List Float) (q : List ℕ) → kind ≡ ComponentSumHistogram e → TabledValues kind edges table
+      → ((i : ℕ) → T (fits binary64 (getD x i nan))) → length found ≡ length y → y ≡ x → q ≡ foundOf false e edges hints table y found → q ≡ valueNumbers kind edges x found
+  unfolding valueNumbers
+  value-found e hints table y q h t f l same p =
+      p ∙ found-bins edges hints table false e (subst (λ (k : Reducer). TabledValues k edges table) h t) y found (λ i. subst (λ (w : List Float). T (fits binary64 (getD w i nan))) (sym same) (f i)) l
+      ∙ ap (map (numberIn false e edges)) same ∙ (rw h)
+
+-- the pairs added by what the lookups left
+pub places-added : (setup : Setup) (list valueEdges : List Float) (hints : List ℕ) (table : Table) (x : Reading) (r : ℕ → Reading) (places : List ℕ) (d : List Float)
+    (found valueFound u v : List ℕ) (s q : List Float) → Tabled (setup .edges) list table → ((i : ℕ) → T (fits binary64 (getD d i nan))) → length found ≡ length d → u ≡ foundOf true (setup .edges) list hints table d found
+    → v ≡ valueNumbers (setup .reducer) valueEdges (pairValues x r (setup .op) places) valueFound → q ≡ placedTo x r setup (length valueEdges) places u v (length places) s
+    → q ≡ placesAdded setup list valueEdges x r places d valueFound s
+unfolding placesAdded
+places-added setup list valueEdges hints table x r places d found valueFound u v s q t w k e f h =
+    h ∙ (λ i. placedTo x r setup (length valueEdges) places ((e ∙ found-bins list hints table true (setup .edges) t d found w k) i) (f i) (length places) s)
 
 -- ---- a histogram's pairs by their weights
 module _ (e : BuiltEdges) (m n v : ℕ) (x : Datum) (y : Float) (same : x .weight ≡ y) (s : List Float) where
@@ -428,53 +439,13 @@ module _ (e : BuiltEdges) (m n : ℕ) (w : Float) (weights : List Float) (places
   unfolding weightsTo
   weights-next q z s r h k = rw (add-one, ← h) k
 
--- the histogram's values looked up; y is what they were written to, q what the lookups left
-pub value-found : (e : BuiltEdges) (edges : List Float) (hints : List ℕ) (table : Table) (x y : List Float) (found q : List ℕ) → Tabled e edges table
-    → ((i : ℕ) → T (fits binary64 (getD x i nan))) → length found ≡ length y → y ≡ x → q ≡ foundOf false e edges hints table y found → q ≡ map (numberIn false e edges) x
-value-found e edges hints table x y found q t f l same p =
-    p ∙ found-bins edges hints table false e t y found (λ i. subst (λ (w : List Float). T (fits binary64 (getD w i nan))) (sym same) (f i)) l ∙ ap (map (numberIn false e edges)) same
-
-module _ (setup : Setup) (valueEdges : List Float) (x : Reading) (c0 c1 c2 w : List Float) (r : ℕ → Reading) (same : readingIn c0 c1 c2 w ≡ r) (places found valueFound : List ℕ) (s q : List Float) where
-  abbrev of : Reducer → (ℕ → Reading) → List Float
-  of k y = placedTo x y setup (length valueEdges) places found (valueNumbers k valueEdges (pairValues x y (setup .op) places) valueFound) (length places) s
-
-  pub found-histogram : (e : BuiltEdges) → setup .reducer ≡ ComponentSumHistogram e
-      → q ≡ weightsTo e (length valueEdges) (setup .«n_states») (x .w) w places found (map (numberIn false e valueEdges) (pairValues x (readingIn c0 c1 c2 w) (setup .op) places)) (length places) s
-      → q ≡ foundAdded setup valueEdges x r places found valueFound s
-  unfolding foundAdded valueNumbers
-  found-histogram e k h =
-      by-weights setup e k (length valueEdges) x c0 c1 c2 w places found _ s q h ∙ ap (λ (y : Reducer). of y (readingIn c0 c1 c2 w)) (sym k) ∙ ap (of (setup .reducer)) same
-
-  module _ (h : q ≡ placedTo x (readingIn c0 c1 c2 w) setup (length valueEdges) places found valueFound (length places) s) where
-    mean : (k : Reducer) → setup .reducer ≡ k → ((y : ℕ → Reading) → valueNumbers k valueEdges (pairValues x y (setup .op) places) valueFound ≡ valueFound) → q ≡ foundAdded setup valueEdges x r places found valueFound s
-    unfolding foundAdded
-    mean k e m =
-        h ∙ ap (λ (y : ℕ → Reading). placedTo x y setup (length valueEdges) places found valueFound (length places) s) same
-        ∙ ap (λ (v : List ℕ). placedTo x r setup (length valueEdges) places found v (length places) s) (sym (m r)) ∙ ap (λ (y : Reducer). of y r) (sym e)
-
-    pub found-mean0 : setup .reducer ≡ Comp0Mean → q ≡ foundAdded setup valueEdges x r places found valueFound s
-    unfolding valueNumbers
-    found-mean0 e = mean Comp0Mean e (λ y. refl)
-
-    pub found-mean : setup .reducer ≡ ComponentSumMean → q ≡ foundAdded setup valueEdges x r places found valueFound s
-    unfolding valueNumbers
-    found-mean e = mean ComponentSumMean e (λ y. refl)
-
--- the pairs added by what the lookups left
-pub places-added : (setup : Setup) (list valueEdges : List Float) (hints : List ℕ) (table : Table) (x : Reading) (r : ℕ → Reading) (places : List ℕ) (d : List Float)
-    (found valueFound u : List ℕ) (s q : List Float) → Tabled (setup .edges) list table → ((i : ℕ) → T (fits binary64 (getD d i nan))) → length found ≡ length d → u ≡ foundOf true (setup .edges) list hints table d found
-    → q ≡ foundAdded setup valueEdges x r places u valueFound s → q ≡ placesAdded setup list valueEdges x r places d valueFound s
-unfolding placesAdded
-places-added setup list valueEdges hints table x r places d found valueFound u s q t w k e h =
-    h ∙ (λ i. foundAdded setup valueEdges x r places ((e ∙ found-bins list hints table true (setup .edges) t d found w k) i) valueFound s)
-
 -- ---- few points: the pairs of a row, one after the other
-module _ (setup : Setup) (list valueEdges : List Float) (a : points.Point) (g : ℕ → points.Point) (j m : ℕ) (z : List Float) where
-  pub row-turn : (e : ℕ) (b : points.Point) (s q : List Float) → e < m → b ≡ g (j + e) → q ≡ pairStep setup list valueEdges (a, b) s
-      → rowAdded setup list valueEdges a g (j + e) (m - e) s ≡ z → rowAdded setup list valueEdges a g (j + (e + 1)) (m - (e + 1)) q ≡ z
-  row-turn e b s q h k p inv =
-      batches-turn setup list valueEdges a g j m z e 1 s q h (omega arith)
-      (p ∙ ap (λ (y : points.Point). pairStep setup list valueEdges (a, y) s) k ∙ row-none setup list valueEdges a g (suc (j + e)) _ ∙ sym (row-cons setup list valueEdges a g (j + e) 0 s)) inv
+module _ (setup : Setup) (list valueEdges : List Float) (a : points.Point) (g : ℕ → points.Point) (n : ℕ) (z : List Float) where
+  pub row-turn : (j : ℕ) (b : points.Point) (s q : List Float) → j < n → b ≡ g j → q ≡ pairStep setup list valueEdges (a, b) s → rowAdded setup list valueEdges a g j (n - j) s ≡ z
+      → rowAdded setup list valueEdges a g (j + 1) (n - (j + 1)) q ≡ z
+  row-turn j b s q h e k inv =
+      let d : n - j ≡ suc (n - (j + 1)) = omega arith in
+      (rw (k, e, add-one j)) ∙ sym (row-cons setup list valueEdges a g j (n - (j + 1)) s) ∙ sym (ap (λ (x : ℕ). rowAdded setup list valueEdges a g j x s) d) ∙ inv
 
 -- x is the distance, r the answer of `bin_of`
 module _ (setup : Setup) (list : List Float) (a b : points.Point) (table : Table) (tabled : Tabled (setup .edges) list table) (x : Float) (e : x ≡ squaredDiffNorm a b) (r : BinIndex)

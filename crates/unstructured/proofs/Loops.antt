@@ -3,7 +3,7 @@ use mathlib.Core.Path.{_≡_, refl, sym, ap, _∙_}
 use mathlib.Core.Option.{some}
 use mathlib.Core.Bool.{Bool, true, false, true≢false}
 use mathlib.Core.List.{List, map}
-use Prim.Native.Nat.{ℕ, zero, suc, _+_, _-_, _<_, _≤_, zero-le}
+use Prim.Native.Nat.{ℕ, zero, suc, _+_, _-_, _<_, _≤_}
 use native.Mathlib.Nat.{sub-zero}
 use native.Mathlib.Numerals.{add-one}
 use native.Mathlib.Omega.{arith}
@@ -49,9 +49,13 @@ add-dropped setup m n pair s e = rw e
 pub partner-auto : (auto : Bool) (i : ℕ) → auto ≡ true → i + 1 ≡ firstPartner auto i
 partner-auto auto i t = rw t
 
-pub partner-first : (auto : Bool) (i n m : ℕ) → i < n → (auto ≡ true → n ≡ m) → firstPartner auto i ≤ m
-partner-first true i n m h e = omega (arith, e refl)
-partner-first false i n m h e = zero-le
+module _ (setup : Setup) (list valueEdges : List Float) where
+  module _ (a : points.Point) (g : ℕ → points.Point) (n : ℕ) (z : List Float) where
+    pub row-done : (j : ℕ) (s : List Float) → n ≤ j → rowAdded setup list valueEdges a g j (n - j) s ≡ z → s ≡ z
+    unfolding rowAdded
+    row-done j s h inv =
+        let m : n - j ≡ 0 = omega arith in
+        rw m at inv
 
 -- ---- all rows: what is left of the loop, from first point i on for n turns; the second set has m points
 module _ (setup : Setup) (list valueEdges : List Float) (auto : Bool) (g h : ℕ → points.Point) (m : ℕ) where

@@ -15,7 +15,7 @@ use Rattle.definitions.specs.Floats.{zeroF}
 use Rattle.definitions.specs.Bins as definitions
 use Rattle.definitions.specs.Bins.{bins, binOf}
 use Rattle.definitions.specs.Points as points
-use Rattle.definitions.specs.Points.{UnstructuredPoints, squaredDiffNorm}
+use Rattle.definitions.specs.Points.{UnstructuredPoints, strideOr, squaredDiffNorm}
 use Rattle.definitions.specs.Reducer as kinds
 use Rattle.definitions.specs.Reducer.{Datum, datumOf, kindSize, pairIn, pairTerm}
 use Rattle.definitions.specs.Run as run
@@ -31,23 +31,28 @@ use Rattle.reducer.specs.Readings.{opOf, edgesOf, kindOf}
 use Rattle.reducer.specs.Consume.{madeEdges, made, builtBins, builtBin, consumed}
 use Rattle.reducer.proofs.Placewise.{bin-bounded, room, made-bin, consumed-length, consumed-at, made-bins}
 use Rattle.edge_table.specs.Tabled.{Usable, UsableValues}
-use Rattle.edge_table.proofs.Lookup.{usable-made, usable-values-made, tabled, tabled-values}
+use Rattle.edge_table.proofs.Lookup.{usable-made, usable-values-made}
 use Rattle.parallel_serial.specs.declared.Shape.{Shape}
 use Rattle.parallel_serial.specs.Drive as drive
 use Rattle.parallel_serial.specs.Drive.{zeroPack, addedScratch, builtEdges, builtReducer, runNumber, runOf}
 use Rattle.parallel_serial.proofs.Refusals.{run-number, Drivable, Accepted, accepted}
 use Rattle.parallel_serial.proofs.Built.{built-made, reducer-made}
 use Rattle.parallel_serial.proofs.Scratch.{lent-zeros, zero-at, added-merged, step-refused, step-done, run-refused, run-done}
-use Rattle.unstructured_points.specs.Readings.{pointsOf}
+use Rattle.unstructured_points.specs.declared.PointSet.{PointSet}
+use Rattle.unstructured_points.specs.Readings.{strideOf, pointsOf}
 use Rattle.unstructured_points.specs.Sets as sets
 use Rattle.unstructured_points.specs.Sets.{setsFor, setsNumber}
 use Rattle.unstructured.specs.declared.Setup.{Setup}
-use Rattle.unstructured.specs.declared.Plan.{Plan}
-use Rattle.unstructured.specs.declared.Request.{Request}
-use Rattle.unstructured.specs.Readings.{setsRun, requestRun}
-use Rattle.unstructured.specs.Pairs.{Held, pointIn, pointsIn, pairsFor, builtPair, pairAdded, pairStep, filled}
-use Rattle.unstructured.specs.Plans.{PlanReady, planFilled, planOf, Planned}
+use Rattle.unstructured.specs.Readings.{setsRun}
+use Rattle.unstructured.specs.Pairs.{Readable, Held, pointIn, pointsIn, pairsFor, builtPair, pairAdded, pairStep, filled}
+use Rattle.unstructured.specs.Batches.{UsableRun}
 use Rattle.unstructured.proofs.Rules.{held-sets}
+
+-- ---- the points that the loops read
+module _ (p v w : List Float) (set : PointSet) (k : ℕ) (q : k ≡ strideOr (set .«n_points») (strideOf (set .stride))) where
+  pub listed : pointsIn p v w k (set .«n_points») ≡ points.points (pointsOf set p v w)
+  unfolding pointsIn pointIn
+  listed = rw q
 
 -- ---- one pair at one place
 module _ (list valueEdges : List Float) (edges : Edges) (kind : Kind) (op : PairOperation) (shape : Shape) (sets : run.Sets) where
@@ -113,52 +118,48 @@ module _ (e : definitions.Edges) (k : kinds.Kind) (shape : Shape) (len : ℕ) (d
   pub used-fits : Fits w64 (shape .«n_states» * shape .«state_size»)
   used-fits = record { fits = omega (arith, used-limit) }
 
-module _ (q : Request) (pa va wa pb vb wb list valueEdges : List Float) (plan : Plan) (p : Planned q list valueEdges plan) (s : List Float)
-    (d : Drivable (edgesOf (q .edges) list) (kindOf (q .kind) valueEdges) (q .shape) (length s)) where
-  made-edges : builtEdges (q .edges) ≡ madeEdges (q .edges)
-  made-edges = built-made (q .edges) list (d .edges)
+module _ (pa va wa : List Float) (a : PointSet) (sa : ℕ) (qa : sa ≡ strideOr (a .«n_points») (strideOf (a .stride))) where
+  pub readable : Held (pointsOf a pa va wa) → Readable pa va wa (a .«n_points») sa
+  readable h = rw qa h
 
-  made-reducer : builtReducer (q .kind) ≡ made (q .kind)
-  made-reducer = reducer-made (q .kind) valueEdges (d .values)
+  module _ (pb vb wb : List Float) (b : PointSet) (sb : ℕ) (qb : sb ≡ strideOr (b .«n_points») (strideOf (b .stride))) (auto : Bool) where
+    pub same-points : (auto ≡ true → pointsOf a pa va wa ≡ pointsOf b pb vb wb) → auto ≡ true → (pointIn pa va wa sa ≡ pointIn pb vb wb sb) × (a .«n_points» ≡ b .«n_points»)
+    same-points same t =
+        let at-once = ap (λ (s : UnstructuredPoints). pointIn (s .positions) (s .values) (s .weights) (points.stride s)) (same t) in
+        (ap (pointIn pa va wa) qa ∙ at-once ∙ sym (ap (pointIn pb vb wb) qb), ap (λ (s : UnstructuredPoints). s .count) (same t))
 
-  -- accepted edges and value edges can be looked up by tables
-  pub plan-ready : Held (pointsOf (q .a) pa va wa) → Held (pointsOf (q .b) pb vb wb) → (q .auto ≡ true → pointsOf (q .a) pa va wa ≡ pointsOf (q .b) pb vb wb)
-      → ((i : ℕ) → T (fits binary64 (at list i))) → ((i : ℕ) → T (fits binary64 (at valueEdges i))) → PlanReady plan list valueEdges pa va wa pb vb wb
-  unfolding planOf
-  plan-ready a b same f g =
-      let e = subst (λ (x : BuiltEdges). Usable x list) (sym made-edges) (usable-made list f (q .edges) (d .edges)) in
-      let v = subst (λ (x : Reducer). UsableValues x valueEdges) (sym made-reducer) (usable-values-made valueEdges g (q .kind) (d .values)) in
-      subst (λ (x : Plan). PlanReady x list valueEdges pa va wa pb vb wb) (sym (p .is))
-      (record {
-        tables = record {
-          edges = tabled list (p .span) _ (builtEdges (q .edges)) e refl;
-          values = tabled-values valueEdges (p .span) _ (builtReducer (q .kind)) v refl;
-          states = d .states ∙ sym (ap (λ (x : BuiltEdges). builtBins x (length list)) made-edges ∙ made-bins list (q .edges));
-        };
-        first = a;
-        second = b;
-        same = λ t. (ap (λ (x : UnstructuredPoints). pointIn (x .positions) (x .values) (x .weights) (points.stride x)) (same t), ap (λ (x : UnstructuredPoints). x .count) (same t));
-      })
+    pub driven : (edges : Edges) (list : List Float) (kind : Kind) (valueEdges : List Float) (op : PairOperation) (shape : Shape) (s q : List Float) (be : BuiltEdges) (rd : Reducer)
+        → Drivable (edgesOf edges list) (kindOf kind valueEdges) shape (length s) → be ≡ builtEdges edges → rd ≡ builtReducer kind
+        → q
+        ≡ addedScratch s
+        (filled (record { op = op; edges = be; reducer = rd; «n_states» = shape .«n_states» }) list valueEdges auto (pointsIn pa va wa sa (a .«n_points»)) (pointsIn pb vb wb sb (b .«n_points»))
+        (take (shape .«n_states» * shape .«state_size») zeroPack))
+        → q ≡ merged (setsRun (setsFor auto (pointsOf a pa va wa) (pointsOf b pb vb wb)) edges list kind valueEdges op shape) s
+    unfolding setsRun
+    driven edges list kind valueEdges op shape s q be rd d eb er h =
+        let x = eb ∙ built-made edges list (d .edges) in
+        let y = er ∙ reducer-made kind valueEdges (d .values) in
+        let n = bins (edgesOf edges list) * kindSize (kindOf kind valueEdges) in
+        let u = (λ i. take (d .states i * d .size i) zeroPack) ∙ lent-zeros zeroPack n (d .limit) refl in
+        let sets = setsFor auto (pointsOf a pa va wa) (pointsOf b pb vb wb) in
+        h
+        ∙ (λ i. addedScratch s
+        (filled (record { op = op; edges = x i; reducer = y i; «n_states» = d .states i }) list valueEdges auto (listed pa va wa a sa qa i) (listed pb vb wb b sb qb i) (u i)))
+        ∙ added-merged (theRun list valueEdges edges kind op shape sets) s _
+        (filled-length list valueEdges edges kind op shape sets (d .few) (d .small) auto _ _ _ ∙ length-replicate n (zeroF false)) (d .within)
+        (λ p l.
+        filled-at list valueEdges edges kind op shape sets (d .few) (d .small) auto _ _ p l
+        ∙ sym (scratch-is (theRun list valueEdges edges kind op shape sets) auto (pointsOf a pa va wa) (pointsOf b pb vb wb) p refl))
 
-  pub driven : (x : List Float) → x ≡ addedScratch s (planFilled plan list valueEdges pa va wa pb vb wb (take (q .shape .«n_states» * q .shape .«state_size») zeroPack))
-      → x ≡ merged (requestRun q pa va wa pb vb wb list valueEdges) s
-  unfolding setsRun planOf pointsIn pointIn
-  driven x h =
-      let n = bins (edgesOf (q .edges) list) * kindSize (kindOf (q .kind) valueEdges) in
-      let u = (λ i. take (d .states i * d .size i) zeroPack) ∙ lent-zeros zeroPack n (d .limit) refl in
-      let a = pointsOf (q .a) pa va wa in
-      let b = pointsOf (q .b) pb vb wb in
-      let sets = setsFor (q .auto) a b in
-      let z = take (q .shape .«n_states» * q .shape .«state_size») zeroPack in
-      h
-      ∙ ap (λ (y : Plan). addedScratch s (planFilled y list valueEdges pa va wa pb vb wb z)) (p .is)
-      ∙ (λ i. addedScratch s
-      (filled (record { op = q .op; edges = made-edges i; reducer = made-reducer i; «n_states» = d .states i }) list valueEdges (q .auto) (points.points a) (points.points b) (u i)))
-      ∙ added-merged (theRun list valueEdges (q .edges) (q .kind) (q .op) (q .shape) sets) s _
-      (filled-length list valueEdges (q .edges) (q .kind) (q .op) (q .shape) sets (d .few) (d .small) (q .auto) _ _ _ ∙ length-replicate n (zeroF false)) (d .within)
-      (λ k l.
-      filled-at list valueEdges (q .edges) (q .kind) (q .op) (q .shape) sets (d .few) (d .small) (q .auto) _ _ k l
-      ∙ sym (scratch-is (theRun list valueEdges (q .edges) (q .kind) (q .op) (q .shape) sets) (q .auto) a b k refl))
+-- accepted edges and value edges can be looked up by tables
+pub usable-run : (edges : Edges) (list : List Float) (kind : Kind) (valueEdges : List Float) (shape : Shape) (len : ℕ) → Drivable (edgesOf edges list) (kindOf kind valueEdges) shape len
+    → ((i : ℕ) → T (fits binary64 (at list i))) → ((i : ℕ) → T (fits binary64 (at valueEdges i))) → (setup : Setup) → setup .edges ≡ builtEdges edges → setup .reducer ≡ builtReducer kind → setup .«n_states» ≡ shape .«n_states» → UsableRun setup list valueEdges
+usable-run edges list kind valueEdges shape len d f g setup eb er en =
+    record {
+      edges = subst (λ (e : BuiltEdges). Usable e list) (sym (eb ∙ built-made edges list (d .edges))) (usable-made list f edges (d .edges));
+      values = subst (λ (r : Reducer). UsableValues r valueEdges) (sym (er ∙ reducer-made kind valueEdges (d .values))) (usable-values-made valueEdges g kind (d .values));
+      states = en ∙ d .states ∙ sym (ap (λ (e : BuiltEdges). builtBins e (length list)) (eb ∙ built-made edges list (d .edges)) ∙ made-bins list edges);
+    }
 
 pub all-taken : (n : ℕ) (z : List Float) → z ≡ zeroPack → take n z ≡ take n zeroPack
 all-taken n z e = ap (take n) e

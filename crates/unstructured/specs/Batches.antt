@@ -19,13 +19,17 @@ use Rattle.reducer.specs.Readings.{opOf}
 use Rattle.reducer.specs.Consume.{builtBins, consumedAt}
 use Rattle.edge_table.specs.Table.{flagOf}
 use Rattle.edge_batch.specs.Batch.{numberIn}
-use Rattle.edge_table.specs.Tabled.{Tabled, TabledValues}
+use Rattle.edge_table.specs.Tabled.{Usable, UsableValues, Tabled, TabledValues}
 use Rattle.unstructured.specs.declared.Setup.{Setup}
 use Rattle.unstructured.specs.declared.Tables.{Tables}
-use Rattle.unstructured.specs.declared.Row.{Row}
-use Rattle.unstructured.specs.Pairs.{pointIn}
 
--- the tables are those of the run's edges and value edges, and each bin has a state
+-- the run's edges and value edges can be looked up by tables, and each bin has a state
+pub record UsableRun (setup : Setup) (list valueEdges : List Float) : Type 0 where
+  pub edges : Usable (setup .edges) list
+  pub values : UsableValues (setup .reducer) valueEdges
+  pub states : setup .«n_states» ≡ builtBins (setup .edges) (length list)
+
+-- these are their tables
 pub record TabledRun (setup : Setup) (list valueEdges : List Float) (tables : Tables) : Type 0 where
   pub edges : Tabled (setup .edges) list (tables .edges)
   pub values : TabledValues (setup .reducer) valueEdges (tables .values)
@@ -60,10 +64,6 @@ pub record Listed (m : ℕ) (places : List ℕ) : Type 0 where
 -- ---- the readings of a batch, in a part of a slice for each component and one of the weights
 unfoldable pub readingIn : List Float → List Float → List Float → List Float → ℕ → Reading
 readingIn c0 c1 c2 w e = record { v0 = at c0 e; v1 = at c1 e; v2 = at c2 e; w = at w e }
-
--- the reading of point e of a row
-unfoldable pub secondOf : Row → List Float → List Float → ℕ → Reading
-secondOf row v w e = pointIn [] v w (row .stride) (row .j + e) .rd
 
 -- m are in the parts
 pub record Parts (m : ℕ) (c0 c1 c2 w : List Float) : Type 0 where
@@ -111,11 +111,8 @@ weightsTo e m n w weights places found valueFound (suc q) s =
     consumedAt (ComponentSumHistogram e) m (some (getD valueFound q 0)) n (getD found q 0) (weightDatum (mul binary64 w (at weights (getD places q 0))))
     (weightsTo e m n w weights places found valueFound q s)
 
--- the pairs with places of a batch, the numbers of whose bins are found
-unfoldable pub foundAdded : Setup → List Float → Reading → (ℕ → Reading) → List ℕ → List ℕ → List ℕ → List Float → List Float
-foundAdded setup valueEdges x r places found valueFound s =
-    placedTo x r setup (length valueEdges) places found (valueNumbers (setup .reducer) valueEdges (pairValues x r (setup .op) places) valueFound) (length places) s
-
--- the same by their distances d, which are past no end
+-- the pairs with places of a batch, whose distances are d and past no end
 unfoldable pub placesAdded : Setup → List Float → List Float → Reading → (ℕ → Reading) → List ℕ → List Float → List ℕ → List Float → List Float
-placesAdded setup list valueEdges x r places d valueFound s = foundAdded setup valueEdges x r places (map (numberIn true (setup .edges) list) d) valueFound s
+placesAdded setup list valueEdges x r places d valueFound s =
+    placedTo x r setup (length valueEdges) places (map (numberIn true (setup .edges) list) d)
+    (valueNumbers (setup .reducer) valueEdges (pairValues x r (setup .op) places) valueFound) (length places) s

@@ -1,4 +1,3 @@
 pub mod Readings
 pub mod Pairs
 pub mod Batches
-pub mod Plans

@@ -47,14 +47,6 @@ pub record Readable (p v w : List Float) (n stride : ℕ) : Type 0 where
   pub values : stride * 3 ≤ length v
   pub weights : n ≤ length w
 
--- their readings are
-pub record Valued (v w : List Float) (n stride : ℕ) : Type 0 where
-  pub few : n ≤ 4096
-  pub inside : n ≤ stride
-  pub limit : stride ≤ 8192
-  pub values : stride * 3 ≤ length v
-  pub weights : n ≤ length w
-
 abbrev pub Held : UnstructuredPoints → Type 0
 Held s = Readable (s .positions) (s .values) (s .weights) (s .count) (stride s)
 

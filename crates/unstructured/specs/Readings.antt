@@ -9,9 +9,6 @@ use Rattle.reducer.specs.declared.Kind.{Kind}
 use Rattle.reducer.specs.Readings.{opOf, edgesOf, kindOf}
 use Rattle.parallel_serial.specs.declared.Shape.{Shape}
 use Rattle.parallel_serial.specs.Drive.{runOf}
-use Rattle.unstructured_points.specs.Readings.{pointsOf}
-use Rattle.unstructured_points.specs.Sets.{setsFor}
-use Rattle.unstructured.specs.declared.Request.{Request}
 
 -- a run over the sets
 unfoldable pub setsRun : Sets → Edges → List Float → Kind → List Float → PairOperation → Shape → Run
@@ -22,7 +19,3 @@ autoRun a edges list kind valueEdges op shape = setsRun (onePoints a) edges list
 
 abbrev pub crossRun : UnstructuredPoints → UnstructuredPoints → Edges → List Float → Kind → List Float → PairOperation → Shape → Run
 crossRun a b edges list kind valueEdges op shape = setsRun (twoPoints a b) edges list kind valueEdges op shape
-
--- the run that is asked for
-abbrev pub requestRun : Request → List Float → List Float → List Float → List Float → List Float → List Float → List Float → List Float → Run
-requestRun q pa va wa pb vb wb list valueEdges = setsRun (setsFor (q .auto) (pointsOf (q .a) pa va wa) (pointsOf (q .b) pb vb wb)) (q .edges) list (q .kind) valueEdges (q .op) (q .shape)

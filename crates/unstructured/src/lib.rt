@@ -12,11 +12,10 @@ use state::Outcome;
 use unstructured_points::Point;
 use unstructured_points::PointSet;
 ghost use mathlib.Core.Path.{_≡_};
-ghost use mathlib.Core.Bool.{true, false};
+ghost use mathlib.Core.Bool.{true};
 ghost use mathlib.Core.Option.{some};
-ghost use mathlib.Core.List.{map};
 ghost use Prim.Native.Nat.{ℕ, _+_, _-_, _<_, _≤_};
-ghost use lib.ListN.{length, getD, take, drop};
+ghost use lib.ListN.{length, getD, take};
 ghost use lib.Ieee.{nan};
 ghost use Rattle.definitions.specs.Bins.{below};
 ghost use Rattle.definitions.specs.Points.{squaredDiffNorm};
@@ -25,15 +24,14 @@ ghost use Rattle.definitions.specs.Rules.{refusal, met, runRules, step};
 ghost use Rattle.state.specs.Readings.{numberOf};
 ghost use Rattle.bins.specs.Answers.{indexOf};
 ghost use Rattle.reducer.specs.Readings.{edgesOf, kindOf, readingOf};
-ghost use Rattle.edge_batch.specs.Batch.{numberIn};
 ghost use Rattle.edge_table.specs.Tabled.{Tabled, TabledValues};
 ghost use Rattle.parallel_serial.specs.Drive.{zeroPack, addedScratch};
 ghost use Rattle.parallel_serial.proofs.Refusals.{Drivable};
 ghost use Rattle.unstructured_points.specs.Readings.{pointsOf, thePoint};
-ghost use Rattle.unstructured.specs.Readings.{requestRun, autoRun, crossRun};
-ghost use Rattle.unstructured.specs.Pairs.{thePair, pointIn, Holds, Readable, Valued, Held, firstPartner, builtPair, pairAdded, pairStep};
-ghost use Rattle.unstructured.specs.Plans.{RowReady, theRow, partOf, rowFor, PlanReady, planFilled, Planned};
-ghost use Rattle.unstructured.specs.Batches.{TabledRun, Rooms, Listed, Parts, readingIn, keptBelow, picked, numberedPair, pairPlaced, pairValues, placedTo, weightsTo, foundAdded, placesAdded, secondOf};
+ghost use Rattle.unstructured_points.specs.Sets.{setsFor};
+ghost use Rattle.unstructured.specs.Readings.{setsRun, autoRun, crossRun};
+ghost use Rattle.unstructured.specs.Pairs.{thePair, pointIn, pointsIn, Holds, Readable, Held, firstPartner, builtPair, pairAdded, pairStep, rowAdded, filled};
+ghost use Rattle.unstructured.specs.Batches.{UsableRun, TabledRun, Rooms, Listed, Parts, readingIn, keptBelow, picked, numberedPair, pairPlaced, pairValues, placedTo, weightsTo, valueNumbers, placesAdded};
 
 // What a pair yields: a bin, three component values and a weight, or nothing.
 pub enum Pair {
@@ -53,38 +51,6 @@ struct Setup {
 struct Tables {
     edges: Table,
     values: Table,
-}
-
-// The numbers of a run. In auto the two sets are one.
-struct Plan {
-    setup: Setup,
-    tables: Tables,
-    auto: bool,
-    a_stride: usize,
-    a_n: usize,
-    b_stride: usize,
-    b_n: usize,
-}
-
-// Point a and m second points from j on.
-struct Row {
-    setup: Setup,
-    tables: Tables,
-    a: Point,
-    stride: usize,
-    j: usize,
-    m: usize,
-}
-
-// What a caller asks for, but for the slices.
-struct Request {
-    auto: bool,
-    a: PointSet,
-    b: PointSet,
-    edges: Edges,
-    kind: Kind,
-    op: PairOperation,
-    shape: Shape,
 }
 
 // ---- pairs
@@ -231,6 +197,41 @@ fn pair_values(
         let second = reading_at(c0, c1, c2, w, places[q]);
         d[q] = reducer::component_sum(reducer::datum_of(op, first, second));
         q += 1;
+    }
+}
+
+// The numbers of the values' bins, which a histogram has. d is room.
+fn value_bins(
+    setup: Setup,
+    value_edges: &[f64],
+    hints: &[u8],
+    table: Table,
+    first: Datum,
+    c0: &[f64],
+    c1: &[f64],
+    c2: &[f64],
+    w: &[f64],
+    m: usize,
+    places: &[usize],
+    d: &mut [f64],
+    found: &mut [usize],
+)
+    requires { ⌜ TabledValues (setup .reducer) (now «value_edges») table ⌝ }
+    requires { ⌜ Parts m (now c0) (now c1) (now c2) (now w) ⌝ }
+    requires { ⌜ Listed m (now places) ⌝ }
+    requires { ⌜ (length (now d) ≡ length (now places)) × (length (now found) ≡ length (now places)) ⌝ }
+    ensures { λ _. ⌜ now (found .exit) ≡ valueNumbers (setup .reducer) (now («value_edges» .entry))
+        (pairValues (readingOf first) (readingIn (now (c0 .entry)) (now (c1 .entry)) (now (c2 .entry)) (now (w .entry))) (setup .op) (now (places .entry))) (now (found .entry)) ⌝ }
+{
+    let kind = setup.reducer;
+    let op = setup.op;
+    match kind {
+        Reducer::Comp0Mean => {}
+        Reducer::ComponentSumMean => {}
+        Reducer::ComponentSumHistogram(edges) => {
+            pair_values(op, first, c0, c1, c2, w, m, places, &mut *d);
+            edge_batch::bins_of(false, edges, value_edges, hints, table, &*d, &mut *found);
+        }
     }
 }
 
@@ -400,114 +401,40 @@ fn add_weights(
     }
 }
 
-// The slice from place k on.
-fn part(s: &[f64], k: usize) -> &[f64]
-    requires { ⌜ k ≤ length (now s) ⌝ }
-    ensures { λ r. ⌜ now r ≡ drop k (now (s .entry)) ⌝ }
-{
-    &s[k..]
-}
-
-// A histogram's pairs by their weights alone, after the bins of their values. d and value_found are room.
-fn add_histogram(
-    row: Row,
-    edges: BuiltEdges,
-    value_edges: &[f64],
-    hints: &[u8],
+// The pairs of a point with the listed ones; a histogram's by their weights alone.
+fn add_found(
+    setup: Setup,
+    value_len: usize,
+    first: Datum,
     c0: &[f64],
     c1: &[f64],
     c2: &[f64],
     w: &[f64],
+    m: usize,
     places: &[usize],
-    d: &mut [f64],
     found: &[usize],
-    value_found: &mut [usize],
+    value_found: &[usize],
     scratch: &mut [f64],
 )
-    requires { ⌜ Tabled edges (now «value_edges») (row .tables .values) ⌝ }
-    requires { ⌜ Parts (row .m) (now c0) (now c1) (now c2) (now w) ⌝ }
-    requires { ⌜ Listed (row .m) (now places) ⌝ }
-    requires { ⌜ (length (now d) ≡ length (now places)) × (length (now found) ≡ length (now places)) × (length (now «value_found») ≡ length (now places)) ⌝ }
-    ensures { λ _. ⌜ now (scratch .exit) ≡ weightsTo edges (length (now («value_edges» .entry))) (row .setup .«n_states») (row .a .rd .weight) (now (w .entry)) (now (places .entry)) (now (found .entry))
-        (map (numberIn false edges (now («value_edges» .entry))) (pairValues (readingOf (row .a .rd)) (readingIn (now (c0 .entry)) (now (c1 .entry)) (now (c2 .entry)) (now (w .entry))) (row .setup .op) (now (places .entry))))
-        (length (now (places .entry))) (now (scratch .entry)) ⌝ }
+    requires { ⌜ Parts m (now c0) (now c1) (now c2) (now w) ⌝ }
+    requires { ⌜ Listed m (now places) ⌝ }
+    requires { ⌜ (length (now found) ≡ length (now places)) × (length (now «value_found») ≡ length (now places)) ⌝ }
+    ensures { λ _. ⌜ now (scratch .exit) ≡ placedTo (readingOf first) (readingIn (now (c0 .entry)) (now (c1 .entry)) (now (c2 .entry)) (now (w .entry))) setup «value_len»
+        (now (places .entry)) (now (found .entry)) (now («value_found» .entry)) (length (now (places .entry))) (now (scratch .entry)) ⌝ }
 {
-    let setup = row.setup;
-    let op = setup.op;
-    let n_states = setup.n_states;
-    let a = row.a;
-    let first = a.rd;
-    let m = row.m;
-    let tables = row.tables;
-    let table = tables.values;
-    let value_len = value_edges.len();
-    pair_values(op, first, c0, c1, c2, w, m, places, &mut *d);
-    edge_batch::bins_of(
-        false,
-        edges,
-        value_edges,
-        hints,
-        table,
-        &*d,
-        &mut *value_found,
-    );
-    add_weights(
-        edges,
-        value_len,
-        n_states,
-        first.weight,
-        w,
-        m,
-        places,
-        found,
-        &*value_found,
-        scratch,
-    );
-}
-
-// The pairs of the row with the listed places, whose bins have been found. d and value_found are room.
-fn add_found(
-    row: Row,
-    value_edges: &[f64],
-    hints: &[u8],
-    values: &[f64],
-    weights: &[f64],
-    places: &[usize],
-    d: &mut [f64],
-    found: &[usize],
-    value_found: &mut [usize],
-    scratch: &mut [f64],
-)
-    requires { ⌜ TabledValues (row .setup .reducer) (now «value_edges») (row .tables .values) ⌝ }
-    requires { ⌜ Valued (now values) (now weights) (row .j + row .m) (row .stride) ⌝ }
-    requires { ⌜ Listed (row .m) (now places) ⌝ }
-    requires { ⌜ (length (now d) ≡ length (now places)) × (length (now found) ≡ length (now places)) × (length (now «value_found») ≡ length (now places)) ⌝ }
-    ensures { λ _. ⌜ now (scratch .exit) ≡ foundAdded (row .setup) (now («value_edges» .entry)) (readingOf (row .a .rd))
-        (secondOf row (now (values .entry)) (now (weights .entry))) (now (places .entry)) (now (found .entry)) (now («value_found» .entry)) (now (scratch .entry)) ⌝ }
-{
-    let setup = row.setup;
     let kind = setup.reducer;
-    let stride = row.stride;
-    let j = row.j;
-    let c0 = part(values, j);
-    let c1 = part(values, stride + j);
-    let c2 = part(values, 2 * stride + j);
-    let w = part(weights, j);
     match kind {
         Reducer::Comp0Mean => {}
         Reducer::ComponentSumMean => {}
         Reducer::ComponentSumHistogram(edges) => {
-            add_histogram(
-                row,
+            add_weights(
                 edges,
-                value_edges,
-                hints,
-                c0,
-                c1,
-                c2,
+                value_len,
+                setup.n_states,
+                first.weight,
                 w,
+                m,
                 places,
-                d,
                 found,
                 value_found,
                 scratch,
@@ -515,9 +442,69 @@ fn add_found(
             return;
         }
     }
-    let a = row.a;
-    let first = a.rd;
     add_listed(
+        setup,
+        value_len,
+        first,
+        c0,
+        c1,
+        c2,
+        w,
+        m,
+        places,
+        found,
+        value_found,
+        scratch,
+    );
+}
+
+// The pairs of a point with the listed ones, whose distances are in d. d, found and value_found are room.
+fn add_places(
+    setup: Setup,
+    list: &[f64],
+    value_edges: &[f64],
+    hints: &[u8],
+    value_hints: &[u8],
+    tables: Tables,
+    first: Datum,
+    c0: &[f64],
+    c1: &[f64],
+    c2: &[f64],
+    w: &[f64],
+    m: usize,
+    places: &[usize],
+    d: &mut [f64],
+    found: &mut [usize],
+    value_found: &mut [usize],
+    scratch: &mut [f64],
+)
+    requires { ⌜ TabledRun setup (now list) (now «value_edges») tables ⌝ }
+    requires { ⌜ Parts m (now c0) (now c1) (now c2) (now w) ⌝ }
+    requires { ⌜ Listed m (now places) ⌝ }
+    requires { ⌜ (length (now d) ≡ length (now places)) × (length (now found) ≡ length (now places)) × (length (now «value_found») ≡ length (now places)) ⌝ }
+    ensures { λ _. ⌜ now (scratch .exit) ≡ placesAdded setup (now (list .entry)) (now («value_edges» .entry)) (readingOf first)
+        (readingIn (now (c0 .entry)) (now (c1 .entry)) (now (c2 .entry)) (now (w .entry))) (now (places .entry)) (now (d .entry)) (now («value_found» .entry)) (now (scratch .entry)) ⌝ }
+{
+    let edges = setup.edges;
+    let table = tables.edges;
+    let value_table = tables.values;
+    edge_batch::bins_of(true, edges, list, hints, table, &*d, &mut *found);
+    value_bins(
+        setup,
+        value_edges,
+        value_hints,
+        value_table,
+        first,
+        c0,
+        c1,
+        c2,
+        w,
+        m,
+        places,
+        d,
+        &mut *value_found,
+    );
+    add_found(
         setup,
         value_edges.len(),
         first,
@@ -525,93 +512,10 @@ fn add_found(
         c1,
         c2,
         w,
-        row.m,
+        m,
         places,
-        found,
-        &*value_found,
-        scratch,
-    );
-}
-
-// The same, whose distances are in d. d, found and value_found are room.
-fn add_places(
-    row: Row,
-    list: &[f64],
-    value_edges: &[f64],
-    hints: &[u8],
-    value_hints: &[u8],
-    values: &[f64],
-    weights: &[f64],
-    places: &[usize],
-    d: &mut [f64],
-    found: &mut [usize],
-    value_found: &mut [usize],
-    scratch: &mut [f64],
-)
-    requires { ⌜ TabledRun (row .setup) (now list) (now «value_edges») (row .tables) ⌝ }
-    requires { ⌜ Valued (now values) (now weights) (row .j + row .m) (row .stride) ⌝ }
-    requires { ⌜ Listed (row .m) (now places) ⌝ }
-    requires { ⌜ (length (now d) ≡ length (now places)) × (length (now found) ≡ length (now places)) × (length (now «value_found») ≡ length (now places)) ⌝ }
-    ensures { λ _. ⌜ now (scratch .exit) ≡ placesAdded (row .setup) (now (list .entry)) (now («value_edges» .entry)) (readingOf (row .a .rd))
-        (secondOf row (now (values .entry)) (now (weights .entry))) (now (places .entry)) (now (d .entry)) (now («value_found» .entry)) (now (scratch .entry)) ⌝ }
-{
-    let setup = row.setup;
-    let edges = setup.edges;
-    let tables = row.tables;
-    let table = tables.edges;
-    edge_batch::bins_of(true, edges, list, hints, table, &*d, &mut *found);
-    add_found(
-        row,
-        value_edges,
-        value_hints,
-        values,
-        weights,
-        places,
-        d,
         &*found,
-        value_found,
-        scratch,
-    );
-}
-
-// The pairs of the row. All but scratch is room.
-fn add_batch(
-    row: Row,
-    list: &[f64],
-    value_edges: &[f64],
-    hints: &[u8],
-    value_hints: &[u8],
-    positions: &[f64],
-    values: &[f64],
-    weights: &[f64],
-    d: &mut [f64],
-    places: &mut [usize],
-    found: &mut [usize],
-    value_found: &mut [usize],
-    scratch: &mut [f64],
-)
-    requires { ⌜ RowReady row (now list) (now «value_edges») (now positions) (now values) (now weights) ⌝ }
-    requires { ⌜ Rooms (row .m) (now d) (now places) (now found) (now «value_found») ⌝ }
-    ensures { λ _. ⌜ now (scratch .exit) ≡ theRow row (now (list .entry)) (now («value_edges» .entry)) (now (positions .entry)) (now (values .entry)) (now (weights .entry)) (now (scratch .entry)) ⌝ }
-{
-    let a = row.a;
-    let m = row.m;
-    let tables = row.tables;
-    let table = tables.edges;
-    distances(a, positions, values, weights, row.stride, row.j, m, &mut *d);
-    let c = list_inside(table, m, &mut *d, &mut *places);
-    add_places(
-        row,
-        list,
-        value_edges,
-        hints,
-        value_hints,
-        values,
-        weights,
-        &places[..c],
-        &mut d[..c],
-        &mut found[..c],
-        &mut value_found[..c],
+        &*value_found,
         scratch,
     );
 }
@@ -623,64 +527,114 @@ fn batch_size(left: usize, most: usize) -> usize
     if left < most { left } else { most }
 }
 
-// m points of the row, from its point e on.
-fn part_of(row: Row, e: usize, m: usize) -> Row
-    requires { ⌜ row .j + e ≤ 4096 ⌝ }
-    ensures { λ r. ⌜ r ≡ partOf row e m ⌝ }
-{
-    let setup = row.setup;
-    let tables = row.tables;
-    let a = row.a;
-    Row {
-        setup,
-        tables,
-        a,
-        stride: row.stride,
-        j: row.j + e,
-        m,
-    }
-}
-
-// The same in batches of no more points than there is room for.
-fn add_batches(
-    row: Row,
+// The pairs of a with m points from j on. All but scratch is room.
+fn add_batch(
+    setup: Setup,
     list: &[f64],
     value_edges: &[f64],
     hints: &[u8],
     value_hints: &[u8],
+    tables: Tables,
+    a: Point,
     positions: &[f64],
     values: &[f64],
     weights: &[f64],
+    stride: usize,
+    j: usize,
+    m: usize,
     d: &mut [f64],
     places: &mut [usize],
     found: &mut [usize],
     value_found: &mut [usize],
     scratch: &mut [f64],
 )
-    requires { ⌜ RowReady row (now list) (now «value_edges») (now positions) (now values) (now weights) ⌝ }
-    requires { ⌜ (0 < length (now d)) × Rooms (length (now d)) (now d) (now places) (now found) (now «value_found») ⌝ }
-    ensures { λ _. ⌜ now (scratch .exit) ≡ theRow row (now (list .entry)) (now («value_edges» .entry)) (now (positions .entry)) (now (values .entry)) (now (weights .entry)) (now (scratch .entry)) ⌝ }
+    requires { ⌜ TabledRun setup (now list) (now «value_edges») tables ⌝ }
+    requires { ⌜ Readable (now positions) (now values) (now weights) (j + m) stride ⌝ }
+    requires { ⌜ Rooms m (now d) (now places) (now found) (now «value_found») ⌝ }
+    ensures { λ _. ⌜ now (scratch .exit) ≡ rowAdded setup (now (list .entry)) (now («value_edges» .entry)) (thePoint a)
+        (pointIn (now (positions .entry)) (now (values .entry)) (now (weights .entry)) stride) j m (now (scratch .entry)) ⌝ }
 {
-    let mut e = 0;
-    while e < row.m {
-        let m = batch_size(row.m - e, d.len());
-        let batch = part_of(row, e, m);
+    let table = tables.edges;
+    let first = a.rd;
+    let c0 = &values[j..];
+    let c1 = &values[stride + j..];
+    let c2 = &values[2 * stride + j..];
+    let w = &weights[j..];
+    distances(a, positions, values, weights, stride, j, m, &mut *d);
+    let c = list_inside(table, m, &mut *d, &mut *places);
+    add_places(
+        setup,
+        list,
+        value_edges,
+        hints,
+        value_hints,
+        tables,
+        first,
+        c0,
+        c1,
+        c2,
+        w,
+        m,
+        &places[..c],
+        &mut d[..c],
+        &mut found[..c],
+        &mut value_found[..c],
+        scratch,
+    );
+}
+
+// A row in batches.
+fn add_batches(
+    setup: Setup,
+    list: &[f64],
+    value_edges: &[f64],
+    hints: &[u8],
+    value_hints: &[u8],
+    tables: Tables,
+    a: Point,
+    positions: &[f64],
+    values: &[f64],
+    weights: &[f64],
+    stride: usize,
+    from: usize,
+    n: usize,
+    d: &mut [f64],
+    places: &mut [usize],
+    found: &mut [usize],
+    value_found: &mut [usize],
+    scratch: &mut [f64],
+)
+    requires { ⌜ TabledRun setup (now list) (now «value_edges») tables ⌝ }
+    requires { ⌜ Readable (now positions) (now values) (now weights) n stride ⌝ }
+    requires { ⌜ (0 < length (now d)) × Rooms (length (now d)) (now d) (now places) (now found) (now «value_found») ⌝ }
+    ensures { λ _. ⌜ now (scratch .exit) ≡ rowAdded setup (now (list .entry)) (now («value_edges» .entry)) (thePoint a)
+        (pointIn (now (positions .entry)) (now (values .entry)) (now (weights .entry)) stride) from (n - from) (now (scratch .entry)) ⌝ }
+{
+    let mut j = from;
+    while j < n {
+        let left = n - j;
+        let m = batch_size(left, d.len());
         add_batch(
-            batch,
+            setup,
             list,
             value_edges,
             hints,
             value_hints,
+            tables,
+            a,
             positions,
             values,
             weights,
+            stride,
+            j,
+            m,
             &mut *d,
             &mut *places,
             &mut *found,
             &mut *value_found,
             &mut *scratch,
         );
-        e += m;
+        j += m;
     }
 }
 
@@ -692,61 +646,58 @@ fn first_partner(auto: bool, i: usize) -> usize
     if auto { i + 1 } else { 0 }
 }
 
-// Point i, which is a, and its second points.
-fn row_of(plan: Plan, a: Point, i: usize) -> Row
-    requires { ⌜ (i < 4096) × (firstPartner (plan .auto) i ≤ plan .«b_n») ⌝ }
-    ensures { λ r. ⌜ r ≡ rowFor plan a i ⌝ }
-{
-    let setup = plan.setup;
-    let tables = plan.tables;
-    let j = first_partner(plan.auto, i);
-    Row {
-        setup,
-        tables,
-        a,
-        stride: plan.b_stride,
-        j,
-        m: plan.b_n - j,
-    }
-}
-
-// All pairs of the run, in batches. d, places, found and value_found are room.
+// All pairs of the run, in batches. All after b_n but scratch is room.
 fn fill_batches(
-    plan: Plan,
+    auto: bool,
+    setup: Setup,
     list: &[f64],
     value_edges: &[f64],
     hints: &[u8],
     value_hints: &[u8],
+    tables: Tables,
     a_positions: &[f64],
     a_values: &[f64],
     a_weights: &[f64],
+    a_stride: usize,
+    a_n: usize,
     b_positions: &[f64],
     b_values: &[f64],
     b_weights: &[f64],
+    b_stride: usize,
+    b_n: usize,
     d: &mut [f64],
     places: &mut [usize],
     found: &mut [usize],
     value_found: &mut [usize],
     scratch: &mut [f64],
 )
-    requires { ⌜ PlanReady plan (now list) (now «value_edges») (now «a_positions») (now «a_values») (now «a_weights») (now «b_positions») (now «b_values») (now «b_weights») ⌝ }
+    requires { ⌜ TabledRun setup (now list) (now «value_edges») tables ⌝ }
+    requires { ⌜ Readable (now «a_positions») (now «a_values») (now «a_weights») «a_n» «a_stride» ⌝ }
+    requires { ⌜ Readable (now «b_positions») (now «b_values») (now «b_weights») «b_n» «b_stride» ⌝ }
+    requires { ⌜ (auto ≡ true → (pointIn (now «a_positions») (now «a_values») (now «a_weights») «a_stride» ≡ pointIn (now «b_positions») (now «b_values») (now «b_weights») «b_stride») × («a_n» ≡ «b_n»)) ⌝ }
     requires { ⌜ (0 < length (now d)) × Rooms (length (now d)) (now d) (now places) (now found) (now «value_found») ⌝ }
-    ensures { λ _. ⌜ now (scratch .exit) ≡ planFilled plan (now (list .entry)) (now («value_edges» .entry)) (now («a_positions» .entry)) (now («a_values» .entry)) (now («a_weights» .entry))
-        (now («b_positions» .entry)) (now («b_values» .entry)) (now («b_weights» .entry)) (now (scratch .entry)) ⌝ }
+    ensures { λ _. ⌜ now (scratch .exit) ≡ filled setup (now (list .entry)) (now («value_edges» .entry)) auto
+        (pointsIn (now («a_positions» .entry)) (now («a_values» .entry)) (now («a_weights» .entry)) «a_stride» «a_n»)
+        (pointsIn (now («b_positions» .entry)) (now («b_values» .entry)) (now («b_weights» .entry)) «b_stride» «b_n») (now (scratch .entry)) ⌝ }
 {
     let mut i = 0;
-    while i < plan.a_n {
-        let a = point_at(a_positions, a_values, a_weights, plan.a_stride, i);
-        let row = row_of(plan, a, i);
+    while i < a_n {
+        let a = point_at(a_positions, a_values, a_weights, a_stride, i);
+        let start = first_partner(auto, i);
         add_batches(
-            row,
+            setup,
             list,
             value_edges,
             hints,
             value_hints,
+            tables,
+            a,
             b_positions,
             b_values,
             b_weights,
+            b_stride,
+            start,
+            b_n,
             &mut *d,
             &mut *places,
             &mut *found,
@@ -757,55 +708,9 @@ fn fill_batches(
     }
 }
 
-// Many second points: the hints and the room, then all pairs.
-fn fill_many(
-    plan: Plan,
-    list: &[f64],
-    value_edges: &[f64],
-    a_positions: &[f64],
-    a_values: &[f64],
-    a_weights: &[f64],
-    b_positions: &[f64],
-    b_values: &[f64],
-    b_weights: &[f64],
-    scratch: &mut [f64],
-)
-    requires { ⌜ PlanReady plan (now list) (now «value_edges») (now «a_positions») (now «a_values») (now «a_weights») (now «b_positions») (now «b_values») (now «b_weights») ⌝ }
-    ensures { λ _. ⌜ now (scratch .exit) ≡ planFilled plan (now (list .entry)) (now («value_edges» .entry)) (now («a_positions» .entry)) (now («a_values» .entry)) (now («a_weights» .entry))
-        (now («b_positions» .entry)) (now («b_values» .entry)) (now («b_weights» .entry)) (now (scratch .entry)) ⌝ }
-{
-    let setup = plan.setup;
-    let built = setup.edges;
-    let kind = setup.reducer;
-    let tables = plan.tables;
-    let edges = tables.edges;
-    let values = tables.values;
-    let mut hints = [0u8; 4096];
-    edge_table::fill_hints(built, list, edges, &mut hints);
-    let mut value_hints = [0u8; 4096];
-    edge_table::fill_value_hints(kind, value_edges, values, &mut value_hints);
-    let mut d = [0.0f64; 256];
-    let mut places = [0usize; 256];
-    let mut found = [0usize; 256];
-    let mut value_found = [0usize; 256];
-    fill_batches(
-        plan,
-        list,
-        value_edges,
-        &hints,
-        &value_hints,
-        a_positions,
-        a_values,
-        a_weights,
-        b_positions,
-        b_values,
-        b_weights,
-        &mut d,
-        &mut places,
-        &mut found,
-        &mut value_found,
-        scratch,
-    );
+// How many places of hints pay for n second points: the edges' range takes somewhat less than 512, or than all.
+fn hint_span(n: usize) -> f64 {
+    if n < 160 { 510.0 } else { 4093.0 }
 }
 
 // ---- few second points: no hints, no room
@@ -859,66 +764,148 @@ fn add_one(
     consume_pair(setup, value_edges, pair, scratch);
 }
 
-// The pairs of the row, one after the other.
+// The pairs of a with the points from `from` on.
 fn add_row(
-    row: Row,
+    setup: Setup,
     list: &[f64],
     value_edges: &[f64],
+    table: Table,
+    a: Point,
     positions: &[f64],
     values: &[f64],
     weights: &[f64],
+    stride: usize,
+    from: usize,
+    n: usize,
     scratch: &mut [f64],
 )
-    requires { ⌜ RowReady row (now list) (now «value_edges») (now positions) (now values) (now weights) ⌝ }
-    ensures { λ _. ⌜ now (scratch .exit) ≡ theRow row (now (list .entry)) (now («value_edges» .entry)) (now (positions .entry)) (now (values .entry)) (now (weights .entry)) (now (scratch .entry)) ⌝ }
+    requires { ⌜ Tabled (setup .edges) (now list) table ⌝ }
+    requires { ⌜ Readable (now positions) (now values) (now weights) n stride ⌝ }
+    ensures { λ _. ⌜ now (scratch .exit) ≡ rowAdded setup (now (list .entry)) (now («value_edges» .entry)) (thePoint a)
+        (pointIn (now (positions .entry)) (now (values .entry)) (now (weights .entry)) stride) from (n - from) (now (scratch .entry)) ⌝ }
 {
-    let mut e = 0;
-    while e < row.m {
-        let setup = row.setup;
-        let tables = row.tables;
-        let table = tables.edges;
-        let a = row.a;
-        let b = point_at(positions, values, weights, row.stride, row.j + e);
+    let mut j = from;
+    while j < n {
+        let b = point_at(positions, values, weights, stride, j);
         add_one(setup, list, value_edges, table, a, b, &mut *scratch);
-        e += 1;
+        j += 1;
     }
 }
 
 // All pairs of the run, one after the other.
 fn fill_few(
-    plan: Plan,
+    auto: bool,
+    setup: Setup,
     list: &[f64],
     value_edges: &[f64],
     a_positions: &[f64],
     a_values: &[f64],
     a_weights: &[f64],
+    a_stride: usize,
+    a_n: usize,
     b_positions: &[f64],
     b_values: &[f64],
     b_weights: &[f64],
+    b_stride: usize,
+    b_n: usize,
     scratch: &mut [f64],
 )
-    requires { ⌜ PlanReady plan (now list) (now «value_edges») (now «a_positions») (now «a_values») (now «a_weights») (now «b_positions») (now «b_values») (now «b_weights») ⌝ }
-    ensures { λ _. ⌜ now (scratch .exit) ≡ planFilled plan (now (list .entry)) (now («value_edges» .entry)) (now («a_positions» .entry)) (now («a_values» .entry)) (now («a_weights» .entry))
-        (now («b_positions» .entry)) (now («b_values» .entry)) (now («b_weights» .entry)) (now (scratch .entry)) ⌝ }
+    requires { ⌜ UsableRun setup (now list) (now «value_edges») ⌝ }
+    requires { ⌜ Readable (now «a_positions») (now «a_values») (now «a_weights») «a_n» «a_stride» ⌝ }
+    requires { ⌜ Readable (now «b_positions») (now «b_values») (now «b_weights») «b_n» «b_stride» ⌝ }
+    requires { ⌜ (auto ≡ true → (pointIn (now «a_positions») (now «a_values») (now «a_weights») «a_stride» ≡ pointIn (now «b_positions») (now «b_values») (now «b_weights») «b_stride») × («a_n» ≡ «b_n»)) ⌝ }
+    ensures { λ _. ⌜ now (scratch .exit) ≡ filled setup (now (list .entry)) (now («value_edges» .entry)) auto
+        (pointsIn (now («a_positions» .entry)) (now («a_values» .entry)) (now («a_weights» .entry)) «a_stride» «a_n»)
+        (pointsIn (now («b_positions» .entry)) (now («b_values» .entry)) (now («b_weights» .entry)) «b_stride» «b_n») (now (scratch .entry)) ⌝ }
 {
+    let edges = setup.edges;
+    let table = edge_table::table_of(edges, list, 0.0);
     let mut i = 0;
-    while i < plan.a_n {
-        let a = point_at(a_positions, a_values, a_weights, plan.a_stride, i);
-        let row = row_of(plan, a, i);
+    while i < a_n {
+        let a = point_at(a_positions, a_values, a_weights, a_stride, i);
+        let start = first_partner(auto, i);
         add_row(
-            row,
+            setup,
             list,
             value_edges,
+            table,
+            a,
             b_positions,
             b_values,
             b_weights,
+            b_stride,
+            start,
+            b_n,
             &mut *scratch,
         );
         i += 1;
     }
 }
 
-// ---- runs
+// Many second points: the tables, the hints and the room, then all pairs.
+fn fill_many(
+    auto: bool,
+    setup: Setup,
+    list: &[f64],
+    value_edges: &[f64],
+    a_positions: &[f64],
+    a_values: &[f64],
+    a_weights: &[f64],
+    a_stride: usize,
+    a_n: usize,
+    b_positions: &[f64],
+    b_values: &[f64],
+    b_weights: &[f64],
+    b_stride: usize,
+    b_n: usize,
+    scratch: &mut [f64],
+)
+    requires { ⌜ UsableRun setup (now list) (now «value_edges») ⌝ }
+    requires { ⌜ Readable (now «a_positions») (now «a_values») (now «a_weights») «a_n» «a_stride» ⌝ }
+    requires { ⌜ Readable (now «b_positions») (now «b_values») (now «b_weights») «b_n» «b_stride» ⌝ }
+    requires { ⌜ (auto ≡ true → (pointIn (now «a_positions») (now «a_values») (now «a_weights») «a_stride» ≡ pointIn (now «b_positions») (now «b_values») (now «b_weights») «b_stride») × («a_n» ≡ «b_n»)) ⌝ }
+    ensures { λ _. ⌜ now (scratch .exit) ≡ filled setup (now (list .entry)) (now («value_edges» .entry)) auto
+        (pointsIn (now («a_positions» .entry)) (now («a_values» .entry)) (now («a_weights» .entry)) «a_stride» «a_n»)
+        (pointsIn (now («b_positions» .entry)) (now («b_values» .entry)) (now («b_weights» .entry)) «b_stride» «b_n») (now (scratch .entry)) ⌝ }
+{
+    let built = setup.edges;
+    let kind = setup.reducer;
+    let span = hint_span(b_n);
+    let edges = edge_table::table_of(built, list, span);
+    let values = edge_table::value_table_of(kind, value_edges, span);
+    let mut hints = [0u8; 4096];
+    edge_table::fill_hints(built, list, edges, &mut hints);
+    let mut value_hints = [0u8; 4096];
+    edge_table::fill_value_hints(kind, value_edges, values, &mut value_hints);
+    let mut d = [0.0f64; 256];
+    let mut places = [0usize; 256];
+    let mut found = [0usize; 256];
+    let mut value_found = [0usize; 256];
+    fill_batches(
+        auto,
+        setup,
+        list,
+        value_edges,
+        &hints,
+        &value_hints,
+        Tables { edges, values },
+        a_positions,
+        a_values,
+        a_weights,
+        a_stride,
+        a_n,
+        b_positions,
+        b_values,
+        b_weights,
+        b_stride,
+        b_n,
+        &mut d,
+        &mut places,
+        &mut found,
+        &mut value_found,
+        scratch,
+    );
+}
 
 // Few second points: hints would not pay, which take longer to make for more bins.
 fn few_points(edges: BuiltEdges, n_states: usize, n: usize) -> bool {
@@ -933,231 +920,441 @@ fn few_points(edges: BuiltEdges, n_states: usize, n: usize) -> bool {
     }
 }
 
-// All pairs of the run, first point ascending, second ascending within it; then scratch is added to the caller's pack.
-fn run_in(
-    plan: Plan,
+// All pairs of the run, first point ascending, second ascending within it. In auto the two sets are one.
+fn fill(
+    auto: bool,
+    setup: Setup,
     list: &[f64],
     value_edges: &[f64],
     a_positions: &[f64],
     a_values: &[f64],
     a_weights: &[f64],
+    a_stride: usize,
+    a_n: usize,
     b_positions: &[f64],
     b_values: &[f64],
     b_weights: &[f64],
+    b_stride: usize,
+    b_n: usize,
     scratch: &mut [f64],
-    pack: &mut [f64],
 )
-    requires { ⌜ PlanReady plan (now list) (now «value_edges») (now «a_positions») (now «a_values») (now «a_weights») (now «b_positions») (now «b_values») (now «b_weights») ⌝ }
-    ensures { λ _. ⌜ now (pack .exit) ≡ addedScratch (now (pack .entry)) (planFilled plan (now (list .entry)) (now («value_edges» .entry)) (now («a_positions» .entry)) (now («a_values» .entry)) (now («a_weights» .entry))
-        (now («b_positions» .entry)) (now («b_values» .entry)) (now («b_weights» .entry)) (now (scratch .entry))) ⌝ }
+    requires { ⌜ UsableRun setup (now list) (now «value_edges») ⌝ }
+    requires { ⌜ Readable (now «a_positions») (now «a_values») (now «a_weights») «a_n» «a_stride» ⌝ }
+    requires { ⌜ Readable (now «b_positions») (now «b_values») (now «b_weights») «b_n» «b_stride» ⌝ }
+    requires { ⌜ (auto ≡ true → (pointIn (now «a_positions») (now «a_values») (now «a_weights») «a_stride» ≡ pointIn (now «b_positions») (now «b_values») (now «b_weights») «b_stride») × («a_n» ≡ «b_n»)) ⌝ }
+    ensures { λ _. ⌜ now (scratch .exit) ≡ filled setup (now (list .entry)) (now («value_edges» .entry)) auto
+        (pointsIn (now («a_positions» .entry)) (now («a_values» .entry)) (now («a_weights» .entry)) «a_stride» «a_n»)
+        (pointsIn (now («b_positions» .entry)) (now («b_values» .entry)) (now («b_weights» .entry)) «b_stride» «b_n») (now (scratch .entry)) ⌝ }
 {
-    let setup = plan.setup;
     let edges = setup.edges;
-    if few_points(edges, setup.n_states, plan.b_n) {
+    if few_points(edges, setup.n_states, b_n) {
         fill_few(
-            plan,
+            auto,
+            setup,
             list,
             value_edges,
             a_positions,
             a_values,
             a_weights,
+            a_stride,
+            a_n,
             b_positions,
             b_values,
             b_weights,
-            &mut *scratch,
-        );
-    } else {
-        fill_many(
-            plan,
-            list,
-            value_edges,
-            a_positions,
-            a_values,
-            a_weights,
-            b_positions,
-            b_values,
-            b_weights,
-            &mut *scratch,
-        );
-    }
-    parallel_serial::add_scratch(scratch, pack);
-}
-
-// The run, its scratch as large as it must be.
-fn run_sized(
-    plan: Plan,
-    used: usize,
-    list: &[f64],
-    value_edges: &[f64],
-    a_positions: &[f64],
-    a_values: &[f64],
-    a_weights: &[f64],
-    b_positions: &[f64],
-    b_values: &[f64],
-    b_weights: &[f64],
-    pack: &mut [f64],
-)
-    requires { ⌜ used ≤ 4096 ⌝ }
-    requires { ⌜ PlanReady plan (now list) (now «value_edges») (now «a_positions») (now «a_values») (now «a_weights») (now «b_positions») (now «b_values») (now «b_weights») ⌝ }
-    ensures { λ _. ⌜ now (pack .exit) ≡ addedScratch (now (pack .entry)) (planFilled plan (now (list .entry)) (now («value_edges» .entry)) (now («a_positions» .entry)) (now («a_values» .entry)) (now («a_weights» .entry))
-        (now («b_positions» .entry)) (now («b_values» .entry)) (now («b_weights» .entry)) (take used zeroPack)) ⌝ }
-{
-    if used <= 64 {
-        let mut scratch = parallel_serial::zeros_64();
-        run_in(
-            plan,
-            list,
-            value_edges,
-            a_positions,
-            a_values,
-            a_weights,
-            b_positions,
-            b_values,
-            b_weights,
-            &mut scratch[..used],
-            pack,
+            b_stride,
+            b_n,
+            scratch,
         );
         return;
     }
-    if used <= 512 {
-        let mut scratch = parallel_serial::zeros_512();
-        run_in(
-            plan,
-            list,
-            value_edges,
-            a_positions,
-            a_values,
-            a_weights,
-            b_positions,
-            b_values,
-            b_weights,
-            &mut scratch[..used],
-            pack,
-        );
-        return;
-    }
-    let mut scratch = parallel_serial::zeros();
-    run_in(
-        plan,
+    fill_many(
+        auto,
+        setup,
         list,
         value_edges,
         a_positions,
         a_values,
         a_weights,
+        a_stride,
+        a_n,
         b_positions,
         b_values,
         b_weights,
+        b_stride,
+        b_n,
+        scratch,
+    );
+}
+
+// ---- runs
+
+// Fills scratch and adds it to the caller's pack.
+fn run_in(
+    auto: bool,
+    setup: Setup,
+    list: &[f64],
+    value_edges: &[f64],
+    a_positions: &[f64],
+    a_values: &[f64],
+    a_weights: &[f64],
+    a_stride: usize,
+    a_n: usize,
+    b_positions: &[f64],
+    b_values: &[f64],
+    b_weights: &[f64],
+    b_stride: usize,
+    b_n: usize,
+    scratch: &mut [f64],
+    pack: &mut [f64],
+)
+    requires { ⌜ UsableRun setup (now list) (now «value_edges») ⌝ }
+    requires { ⌜ Readable (now «a_positions») (now «a_values») (now «a_weights») «a_n» «a_stride» ⌝ }
+    requires { ⌜ Readable (now «b_positions») (now «b_values») (now «b_weights») «b_n» «b_stride» ⌝ }
+    requires { ⌜ (auto ≡ true → (pointIn (now «a_positions») (now «a_values») (now «a_weights») «a_stride» ≡ pointIn (now «b_positions») (now «b_values») (now «b_weights») «b_stride») × («a_n» ≡ «b_n»)) ⌝ }
+    ensures { λ _. ⌜ now (pack .exit) ≡ addedScratch (now (pack .entry)) (filled setup (now (list .entry)) (now («value_edges» .entry)) auto
+        (pointsIn (now («a_positions» .entry)) (now («a_values» .entry)) (now («a_weights» .entry)) «a_stride» «a_n»)
+        (pointsIn (now («b_positions» .entry)) (now («b_values» .entry)) (now («b_weights» .entry)) «b_stride» «b_n») (now (scratch .entry))) ⌝ }
+{
+    fill(
+        auto,
+        setup,
+        list,
+        value_edges,
+        a_positions,
+        a_values,
+        a_weights,
+        a_stride,
+        a_n,
+        b_positions,
+        b_values,
+        b_weights,
+        b_stride,
+        b_n,
+        scratch,
+    );
+    parallel_serial::add_scratch(scratch, pack);
+}
+
+fn run_64(
+    auto: bool,
+    setup: Setup,
+    list: &[f64],
+    value_edges: &[f64],
+    a_positions: &[f64],
+    a_values: &[f64],
+    a_weights: &[f64],
+    a_stride: usize,
+    a_n: usize,
+    b_positions: &[f64],
+    b_values: &[f64],
+    b_weights: &[f64],
+    b_stride: usize,
+    b_n: usize,
+    used: usize,
+    pack: &mut [f64],
+)
+    requires { ⌜ used ≤ 64 ⌝ }
+    requires { ⌜ UsableRun setup (now list) (now «value_edges») ⌝ }
+    requires { ⌜ Readable (now «a_positions») (now «a_values») (now «a_weights») «a_n» «a_stride» ⌝ }
+    requires { ⌜ Readable (now «b_positions») (now «b_values») (now «b_weights») «b_n» «b_stride» ⌝ }
+    requires { ⌜ (auto ≡ true → (pointIn (now «a_positions») (now «a_values») (now «a_weights») «a_stride» ≡ pointIn (now «b_positions») (now «b_values») (now «b_weights») «b_stride») × («a_n» ≡ «b_n»)) ⌝ }
+    ensures { λ _. ⌜ now (pack .exit) ≡ addedScratch (now (pack .entry)) (filled setup (now (list .entry)) (now («value_edges» .entry)) auto
+        (pointsIn (now («a_positions» .entry)) (now («a_values» .entry)) (now («a_weights» .entry)) «a_stride» «a_n»)
+        (pointsIn (now («b_positions» .entry)) (now («b_values» .entry)) (now («b_weights» .entry)) «b_stride» «b_n») (take used zeroPack)) ⌝ }
+{
+    let mut scratch = parallel_serial::zeros_64();
+    run_in(
+        auto,
+        setup,
+        list,
+        value_edges,
+        a_positions,
+        a_values,
+        a_weights,
+        a_stride,
+        a_n,
+        b_positions,
+        b_values,
+        b_weights,
+        b_stride,
+        b_n,
         &mut scratch[..used],
         pack,
     );
 }
 
-// How many places of hints pay for n second points: the edges' range takes somewhat less than 512, or than all.
-fn hint_span(n: usize) -> f64 {
-    if n < 160 { 510.0 } else { 4093.0 }
-}
-
-// What the loops take of an accepted request.
-fn plan_of(request: Request, list: &[f64], value_edges: &[f64]) -> Plan
-    ensures { λ r. ⌜ Planned request (now (list .entry)) (now («value_edges» .entry)) r ⌝ }
-{
-    let asked = request.edges;
-    let kind = request.kind;
-    let op = request.op;
-    let shape = request.shape;
-    let a = request.a;
-    let b = request.b;
-    let edges = parallel_serial::build_edges(asked);
-    let reducer = parallel_serial::build_reducer(kind);
-    let n_states = shape.n_states;
-    let setup = Setup {
-        op,
-        edges,
-        reducer,
-        n_states,
-    };
-    let span = hint_span(b.n_points);
-    let edge_table = edge_table::table_of(edges, list, span);
-    let value_table = edge_table::value_table_of(reducer, value_edges, span);
-    let tables = Tables {
-        edges: edge_table,
-        values: value_table,
-    };
-    let a_stride = unstructured_points::stride_of(a);
-    let b_stride = unstructured_points::stride_of(b);
-    Plan {
-        setup,
-        tables,
-        auto: request.auto,
-        a_stride,
-        a_n: a.n_points,
-        b_stride,
-        b_n: b.n_points,
-    }
-}
-
-// An accepted run.
-fn drive(
-    request: Request,
+fn run_512(
+    auto: bool,
+    setup: Setup,
+    list: &[f64],
+    value_edges: &[f64],
     a_positions: &[f64],
     a_values: &[f64],
     a_weights: &[f64],
+    a_stride: usize,
+    a_n: usize,
     b_positions: &[f64],
     b_values: &[f64],
     b_weights: &[f64],
-    list: &[f64],
-    value_edges: &[f64],
+    b_stride: usize,
+    b_n: usize,
+    used: usize,
     pack: &mut [f64],
 )
-    requires { ⌜ Held (pointsOf (request .a) (now «a_positions») (now «a_values») (now «a_weights»)) ⌝ }
-    requires { ⌜ Held (pointsOf (request .b) (now «b_positions») (now «b_values») (now «b_weights»)) ⌝ }
-    requires { ⌜ (request .auto ≡ true → pointsOf (request .a) (now «a_positions») (now «a_values») (now «a_weights») ≡ pointsOf (request .b) (now «b_positions») (now «b_values») (now «b_weights»)) ⌝ }
-    requires { ⌜ Drivable (edgesOf (request .edges) (now list)) (kindOf (request .kind) (now «value_edges»)) (request .shape) (length (now pack)) ⌝ }
-    ensures { λ _. ⌜ now (pack .exit) ≡ merged (requestRun request (now («a_positions» .entry)) (now («a_values» .entry)) (now («a_weights» .entry))
-        (now («b_positions» .entry)) (now («b_values» .entry)) (now («b_weights» .entry)) (now (list .entry)) (now («value_edges» .entry))) (now (pack .entry)) ⌝ }
+    requires { ⌜ used ≤ 512 ⌝ }
+    requires { ⌜ UsableRun setup (now list) (now «value_edges») ⌝ }
+    requires { ⌜ Readable (now «a_positions») (now «a_values») (now «a_weights») «a_n» «a_stride» ⌝ }
+    requires { ⌜ Readable (now «b_positions») (now «b_values») (now «b_weights») «b_n» «b_stride» ⌝ }
+    requires { ⌜ (auto ≡ true → (pointIn (now «a_positions») (now «a_values») (now «a_weights») «a_stride» ≡ pointIn (now «b_positions») (now «b_values») (now «b_weights») «b_stride») × («a_n» ≡ «b_n»)) ⌝ }
+    ensures { λ _. ⌜ now (pack .exit) ≡ addedScratch (now (pack .entry)) (filled setup (now (list .entry)) (now («value_edges» .entry)) auto
+        (pointsIn (now («a_positions» .entry)) (now («a_values» .entry)) (now («a_weights» .entry)) «a_stride» «a_n»)
+        (pointsIn (now («b_positions» .entry)) (now («b_values» .entry)) (now («b_weights» .entry)) «b_stride» «b_n») (take used zeroPack)) ⌝ }
 {
-    let plan = plan_of(request, list, value_edges);
-    let shape = request.shape;
-    let used = shape.n_states * shape.state_size;
-    run_sized(
-        plan,
-        used,
+    let mut scratch = parallel_serial::zeros_512();
+    run_in(
+        auto,
+        setup,
         list,
         value_edges,
         a_positions,
         a_values,
         a_weights,
+        a_stride,
+        a_n,
         b_positions,
         b_values,
         b_weights,
+        b_stride,
+        b_n,
+        &mut scratch[..used],
+        pack,
+    );
+}
+
+fn run_4096(
+    auto: bool,
+    setup: Setup,
+    list: &[f64],
+    value_edges: &[f64],
+    a_positions: &[f64],
+    a_values: &[f64],
+    a_weights: &[f64],
+    a_stride: usize,
+    a_n: usize,
+    b_positions: &[f64],
+    b_values: &[f64],
+    b_weights: &[f64],
+    b_stride: usize,
+    b_n: usize,
+    used: usize,
+    pack: &mut [f64],
+)
+    requires { ⌜ used ≤ 4096 ⌝ }
+    requires { ⌜ UsableRun setup (now list) (now «value_edges») ⌝ }
+    requires { ⌜ Readable (now «a_positions») (now «a_values») (now «a_weights») «a_n» «a_stride» ⌝ }
+    requires { ⌜ Readable (now «b_positions») (now «b_values») (now «b_weights») «b_n» «b_stride» ⌝ }
+    requires { ⌜ (auto ≡ true → (pointIn (now «a_positions») (now «a_values») (now «a_weights») «a_stride» ≡ pointIn (now «b_positions») (now «b_values») (now «b_weights») «b_stride») × («a_n» ≡ «b_n»)) ⌝ }
+    ensures { λ _. ⌜ now (pack .exit) ≡ addedScratch (now (pack .entry)) (filled setup (now (list .entry)) (now («value_edges» .entry)) auto
+        (pointsIn (now («a_positions» .entry)) (now («a_values» .entry)) (now («a_weights» .entry)) «a_stride» «a_n»)
+        (pointsIn (now («b_positions» .entry)) (now («b_values» .entry)) (now («b_weights» .entry)) «b_stride» «b_n») (take used zeroPack)) ⌝ }
+{
+    let mut scratch = parallel_serial::zeros();
+    run_in(
+        auto,
+        setup,
+        list,
+        value_edges,
+        a_positions,
+        a_values,
+        a_weights,
+        a_stride,
+        a_n,
+        b_positions,
+        b_values,
+        b_weights,
+        b_stride,
+        b_n,
+        &mut scratch[..used],
+        pack,
+    );
+}
+
+// The run, its scratch as large as it must be.
+fn run_sized(
+    auto: bool,
+    setup: Setup,
+    list: &[f64],
+    value_edges: &[f64],
+    a_positions: &[f64],
+    a_values: &[f64],
+    a_weights: &[f64],
+    a_stride: usize,
+    a_n: usize,
+    b_positions: &[f64],
+    b_values: &[f64],
+    b_weights: &[f64],
+    b_stride: usize,
+    b_n: usize,
+    used: usize,
+    pack: &mut [f64],
+)
+    requires { ⌜ used ≤ 4096 ⌝ }
+    requires { ⌜ UsableRun setup (now list) (now «value_edges») ⌝ }
+    requires { ⌜ Readable (now «a_positions») (now «a_values») (now «a_weights») «a_n» «a_stride» ⌝ }
+    requires { ⌜ Readable (now «b_positions») (now «b_values») (now «b_weights») «b_n» «b_stride» ⌝ }
+    requires { ⌜ (auto ≡ true → (pointIn (now «a_positions») (now «a_values») (now «a_weights») «a_stride» ≡ pointIn (now «b_positions») (now «b_values») (now «b_weights») «b_stride») × («a_n» ≡ «b_n»)) ⌝ }
+    ensures { λ _. ⌜ now (pack .exit) ≡ addedScratch (now (pack .entry)) (filled setup (now (list .entry)) (now («value_edges» .entry)) auto
+        (pointsIn (now («a_positions» .entry)) (now («a_values» .entry)) (now («a_weights» .entry)) «a_stride» «a_n»)
+        (pointsIn (now («b_positions» .entry)) (now («b_values» .entry)) (now («b_weights» .entry)) «b_stride» «b_n») (take used zeroPack)) ⌝ }
+{
+    if used <= 64 {
+        run_64(
+            auto,
+            setup,
+            list,
+            value_edges,
+            a_positions,
+            a_values,
+            a_weights,
+            a_stride,
+            a_n,
+            b_positions,
+            b_values,
+            b_weights,
+            b_stride,
+            b_n,
+            used,
+            pack,
+        );
+        return;
+    }
+    if used <= 512 {
+        run_512(
+            auto,
+            setup,
+            list,
+            value_edges,
+            a_positions,
+            a_values,
+            a_weights,
+            a_stride,
+            a_n,
+            b_positions,
+            b_values,
+            b_weights,
+            b_stride,
+            b_n,
+            used,
+            pack,
+        );
+        return;
+    }
+    run_4096(
+        auto,
+        setup,
+        list,
+        value_edges,
+        a_positions,
+        a_values,
+        a_weights,
+        a_stride,
+        a_n,
+        b_positions,
+        b_values,
+        b_weights,
+        b_stride,
+        b_n,
+        used,
+        pack,
+    );
+}
+
+// An accepted run. In auto the two sets are one.
+fn drive(
+    auto: bool,
+    a_positions: &[f64],
+    a_values: &[f64],
+    a_weights: &[f64],
+    a: PointSet,
+    b_positions: &[f64],
+    b_values: &[f64],
+    b_weights: &[f64],
+    b: PointSet,
+    edges: Edges,
+    list: &[f64],
+    kind: Kind,
+    value_edges: &[f64],
+    op: PairOperation,
+    shape: Shape,
+    pack: &mut [f64],
+)
+    requires { ⌜ Held (pointsOf a (now «a_positions») (now «a_values») (now «a_weights»)) ⌝ }
+    requires { ⌜ Held (pointsOf b (now «b_positions») (now «b_values») (now «b_weights»)) ⌝ }
+    requires { ⌜ (auto ≡ true → pointsOf a (now «a_positions») (now «a_values») (now «a_weights») ≡ pointsOf b (now «b_positions») (now «b_values») (now «b_weights»)) ⌝ }
+    requires { ⌜ Drivable (edgesOf edges (now list)) (kindOf kind (now «value_edges»)) shape (length (now pack)) ⌝ }
+    ensures { λ _. ⌜ now (pack .exit) ≡ merged (setsRun (setsFor auto (pointsOf a (now («a_positions» .entry)) (now («a_values» .entry)) (now («a_weights» .entry)))
+        (pointsOf b (now («b_positions» .entry)) (now («b_values» .entry)) (now («b_weights» .entry))))
+        edges (now (list .entry)) kind (now («value_edges» .entry)) op shape) (now (pack .entry)) ⌝ }
+{
+    let built = parallel_serial::build_edges(edges);
+    let reducer = parallel_serial::build_reducer(kind);
+    let n_states = shape.n_states;
+    let state_size = shape.state_size;
+    let setup = Setup {
+        op,
+        edges: built,
+        reducer,
+        n_states,
+    };
+    let a_stride = unstructured_points::stride_of(a);
+    let b_stride = unstructured_points::stride_of(b);
+    let used = n_states * state_size;
+    run_sized(
+        auto,
+        setup,
+        list,
+        value_edges,
+        a_positions,
+        a_values,
+        a_weights,
+        a_stride,
+        a.n_points,
+        b_positions,
+        b_values,
+        b_weights,
+        b_stride,
+        b.n_points,
+        used,
         pack,
     );
 }
 
 fn run(
-    request: Request,
+    auto: bool,
     a_positions: &[f64],
     a_values: &[f64],
     a_weights: &[f64],
+    a: PointSet,
     b_positions: &[f64],
     b_values: &[f64],
     b_weights: &[f64],
+    b: PointSet,
+    edges: Edges,
     list: &[f64],
+    kind: Kind,
     value_edges: &[f64],
+    op: PairOperation,
+    shape: Shape,
     pack: &mut [f64],
 ) -> Outcome
-    requires { ⌜ (request .auto ≡ true → pointsOf (request .a) (now «a_positions») (now «a_values») (now «a_weights») ≡ pointsOf (request .b) (now «b_positions») (now «b_values») (now «b_weights»)) ⌝ }
-    ensures { λ r. ⌜ numberOf r ≡ met (refusal (runRules (requestRun request (now («a_positions» .entry)) (now («a_values» .entry)) (now («a_weights» .entry))
-        (now («b_positions» .entry)) (now («b_values» .entry)) (now («b_weights» .entry)) (now (list .entry)) (now («value_edges» .entry))) (length (now (pack .entry))))) ⌝ }
-    ensures { λ _. ⌜ now (pack .exit) ≡ step (requestRun request (now («a_positions» .entry)) (now («a_values» .entry)) (now («a_weights» .entry))
-        (now («b_positions» .entry)) (now («b_values» .entry)) (now («b_weights» .entry)) (now (list .entry)) (now («value_edges» .entry))) (now (pack .entry)) ⌝ }
+    requires { ⌜ (auto ≡ true → pointsOf a (now «a_positions») (now «a_values») (now «a_weights») ≡ pointsOf b (now «b_positions») (now «b_values») (now «b_weights»)) ⌝ }
+    ensures { λ r. ⌜ numberOf r ≡ met (refusal (runRules (setsRun (setsFor auto (pointsOf a (now («a_positions» .entry)) (now («a_values» .entry)) (now («a_weights» .entry)))
+        (pointsOf b (now («b_positions» .entry)) (now («b_values» .entry)) (now («b_weights» .entry))))
+        edges (now (list .entry)) kind (now («value_edges» .entry)) op shape) (length (now (pack .entry))))) ⌝ }
+    ensures { λ _. ⌜ now (pack .exit) ≡ step (setsRun (setsFor auto (pointsOf a (now («a_positions» .entry)) (now («a_values» .entry)) (now («a_weights» .entry)))
+        (pointsOf b (now («b_positions» .entry)) (now («b_values» .entry)) (now («b_weights» .entry))))
+        edges (now (list .entry)) kind (now («value_edges» .entry)) op shape) (now (pack .entry)) ⌝ }
 {
-    let auto = request.auto;
-    let a = request.a;
-    let b = request.b;
-    let edges = request.edges;
-    let kind = request.kind;
-    let shape = request.shape;
     let number = unstructured_points::run_refusal(
         auto,
         a_positions,
@@ -1179,15 +1376,21 @@ fn run(
         return Outcome::Refused(number);
     }
     drive(
-        request,
+        auto,
         a_positions,
         a_values,
         a_weights,
+        a,
         b_positions,
         b_values,
         b_weights,
+        b,
+        edges,
         list,
+        kind,
         value_edges,
+        op,
+        shape,
         pack,
     );
     Outcome::Done
@@ -1212,25 +1415,22 @@ pub fn points_auto(
     ensures { λ _. ⌜ now (pack .exit) ≡ step (autoRun (pointsOf set (now (positions .entry)) (now (values .entry)) (now (weights .entry)))
         edges (now (list .entry)) kind (now («value_edges» .entry)) op shape) (now (pack .entry)) ⌝ }
 {
-    let request = Request {
-        auto: true,
-        a: set,
-        b: set,
+    run(
+        true,
+        positions,
+        values,
+        weights,
+        set,
+        positions,
+        values,
+        weights,
+        set,
         edges,
+        list,
         kind,
+        value_edges,
         op,
         shape,
-    };
-    run(
-        request,
-        positions,
-        values,
-        weights,
-        positions,
-        values,
-        weights,
-        list,
-        value_edges,
         pack,
     )
 }
@@ -1260,25 +1460,22 @@ pub fn points_cross(
         (pointsOf b (now («b_positions» .entry)) (now («b_values» .entry)) (now («b_weights» .entry)))
         edges (now (list .entry)) kind (now («value_edges» .entry)) op shape) (now (pack .entry)) ⌝ }
 {
-    let request = Request {
-        auto: false,
-        a,
-        b,
-        edges,
-        kind,
-        op,
-        shape,
-    };
     run(
-        request,
+        false,
         a_positions,
         a_values,
         a_weights,
+        a,
         b_positions,
         b_values,
         b_weights,
+        b,
+        edges,
         list,
+        kind,
         value_edges,
+        op,
+        shape,
         pack,
     )
 }
