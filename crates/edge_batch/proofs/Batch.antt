@@ -8,9 +8,9 @@ use native.Mathlib.Nat.{le-trans}
 use native.Mathlib.Omega.{arith}
 use lib.Dec.{ltb, eqb, T}
 use lib.ListN.{length, getD, length-map}
-use lib.Ieee.{Float, lt, le, eq, ne, binary64, add, mul, ofBits, toBits, fits}
+use lib.Ieee.{Float, lt, le, eq, ne, isNan, binary64, add, mul, ofBits, toBits, fits}
 use lib.Ieee.Bits.{is-true}
-use borrow.Author.Tests.{lt-ltb, le-ltb, ltb-true, eq-eqb, ne-eqb}
+use borrow.Author.Tests.{lt-ltb, le-ltb, ltb-true, eq-eqb, ne-eqb, eqb-true, eqb-false}
 use Rattle.definitions.specs.Lists.{at}
 use Rattle.definitions.specs.Floats.{asUsize}
 use Rattle.definitions.specs.Bins as definitions
@@ -22,10 +22,10 @@ use Rattle.reducer.specs.Consume as consume
 use Rattle.reducer.specs.Consume.{builtBins, builtFind, builtBin}
 use Rattle.reducer.proofs.Placewise.{below-again}
 use Rattle.edge_table.specs.declared.Table.{Table}
-use Rattle.edge_table.specs.Table.{endOf, placeOf, nearHint, bit, pastEnd, enclosed, nonzero, sureAt, tableBin}
+use Rattle.edge_table.specs.Table.{endOf, placeOf, nearHint, bit, flagOf, pastEnd, enclosed, nonzero, locatedBin, sureAt}
 use Rattle.edge_table.specs.Tabled.{Tabled}
 use Rattle.edge_table.proofs.Ways.{end-le}
-use Rattle.edge_table.proofs.Lookup.{bin-low, bin-high, enclosed-bin, found-bin}
+use Rattle.edge_table.proofs.Lookup.{outside, bin-low, bin-high, enclosed-bin, located-found}
 use Rattle.edge_batch.specs.Batch.{numberOr, quotient, isPast, numberFor, sureNumber, AtMost, each, sure, settled, settledOr, batchNumber, foundOf, numberIn}
 use Rattle.edge_batch.proofs.Loops.{each-map}
 use Rattle.edge_batch.proofs.Cuts.{sure-within}
@@ -44,9 +44,13 @@ module _ (inside : Bool) (edges : BuiltEdges) (list : List Float) (table : Table
   pub settled-regular : (e : RegularBinEdges) (n : ℕ) → edges ≡ Regular e → n ≡ numberFor inside e x → n ≡ settled inside edges list table x
   settled-regular e n t p = p ∙ (λ i. settled inside (sym t i) list table x)
 
-  -- o is the answer of `bin_of`
-  pub settled-irregular : (o : Option ℕ) (n : ℕ) → edges ≡ Irregular → o ≡ tableBin edges list table x → n ≡ numberOr o → n ≡ settled inside edges list table x
-  settled-irregular o n t p q = q ∙ ap numberOr (p ∙ (λ i. tableBin (t i) list table x)) ∙ (λ i. settled inside (sym t i) list table x)
+  -- r is the answer of `flag`, o of `located_bin`
+  module _ (r : ℕ) (t : edges ≡ Irregular) (e : r ≡ flagOf (table .first) (table .last) x) where
+    pub settled-past : r ≡ 0 → 4096 ≡ settled inside edges list table x
+    settled-past z = rw (t, ← e, eq-eqb r 0 z)
+
+    pub settled-irregular : (o : Option ℕ) (n : ℕ) → (r ≡ 0 → ⊥) → o ≡ locatedBin list x → n ≡ numberOr o → n ≡ settled inside edges list table x
+    settled-irregular o n z p q = q ∙ rw (t, ← e, ne-eqb r 0 z, p)
 
   module _ (n : ℕ) where
     pub settled-marked : (v : ℕ) → 8192 ≤ n → v ≡ settled inside edges list table x → v ≡ settledOr inside edges list table x n
@@ -118,15 +122,33 @@ module _ (es : List Float) (hints : List ℕ) (table : Table) where
       past-le true = omega arith
       past-le false = omega arith
 
-      past-none : (inside : Bool) → pastEnd inside table x ≡ 1 → none ≡ builtBin Irregular es x
-      unfolding pastEnd
-      past-none true h = absurd (omega (arith, h))
-      past-none false h = go (lt x (table .first)) (le (table .last) x) refl refl h
+      flag-none : flagOf (table .first) (table .last) x ≡ 0 → none ≡ builtBin Irregular es x
+      flag-none = go (lt x (table .first)) (le (table .last) x) refl refl
         where
-          go : (a b : Bool) → lt x (table .first) ≡ a → le (table .last) x ≡ b → 1 - (1 - bit a) * (1 - bit b) ≡ 1 → none ≡ builtBin Irregular es x
+          go : (a b : Bool) → lt x (table .first) ≡ a → le (table .last) x ≡ b → (1 - bit a) * (1 - bit b) ≡ 0 → none ≡ builtBin Irregular es x
           go true b e g k = bin-low es (table .first) (table .last) x Irregular (t .ends) e
           go false true e g k = bin-high es (table .first) (table .last) x Irregular (t .ends) g
           go false false e g k = absurd (omega (arith, k))
+
+      past-none : (inside : Bool) → pastEnd inside table x ≡ 1 → none ≡ builtBin Irregular es x
+      unfolding pastEnd
+      past-none true h = absurd (omega (arith, h))
+      past-none false h = flag-none (omega (arith, h))
+
+      flag-inside : (flagOf (table .first) (table .last) x ≡ 0 → ⊥) → isNan x ≡ false → outside es x ≡ false
+      flag-inside h n = rw n (go (lt x (table .first)) (le (table .last) x) refl refl h)
+        where
+          go : (a b : Bool) → lt x (table .first) ≡ a → le (table .last) x ≡ b → ((1 - bit a) * (1 - bit b) ≡ 0 → ⊥) → (lt x (at es 0) || le (at es (length es - 1)) x) ≡ false
+          go true b e g k = absurd (k (omega arith))
+          go false true e g k = absurd (k (omega arith))
+          go false false e g k = rw (← t .ends .0, ← t .ends .1, e, g)
+
+      settled-found : (inside : Bool) → settled inside Irregular es table x ≡ numberOr (builtBin Irregular es x)
+      settled-found inside = go (eqb (flagOf (table .first) (table .last) x) 0) refl
+        where
+          go : (b : Bool) → eqb (flagOf (table .first) (table .last) x) 0 ≡ b → cond b 4096 (numberOr (locatedBin es x)) ≡ numberOr (builtBin Irregular es x)
+          go true e = ap numberOr (flag-none (eqb-true _ 0 e))
+          go false e = ap numberOr (located-found es (t .usable) x f (flag-inside (eqb-false _ 0 e)))
 
       -- past an end, a zero, or tried
       sure-found : (inside : Bool) → sureAt es hints x (placeOf inside table x) < 8192 → sureAt es hints x (placeOf inside table x) ≡ numberOr (builtBin Irregular es x)
@@ -160,7 +182,7 @@ module _ (es : List Float) (hints : List ℕ) (table : Table) where
 
         go : (d : BuiltEdges) → Tabled d es table → batchNumber inside d es hints table x ≡ numberIn inside d es x
         go (Regular e) u = pick (sureNumber inside e x) _ _ _ refl (sure-within inside e x) refl
-        go Irregular u = pick (sureAt es hints x (placeOf inside table x)) _ _ _ refl (sure-found x u f inside) (ap numberOr (found-bin Irregular es table x _ refl u f))
+        go Irregular u = pick (sureAt es hints x (placeOf inside table x)) _ _ _ refl (sure-found x u f inside) (settled-found x u f inside)
 
     batch-map : (x : List Float) → ((i : ℕ) → T (fits binary64 (at x i))) → map (batchNumber inside edges es hints table) x ≡ map (numberIn inside edges es) x
     batch-map [] f = refl

@@ -18,15 +18,6 @@ use Rattle.edge_table.proofs.Lookup.{and-true}
 pub small-float : (h : ℕ) → h < 4096 → T (inFloat binary64 (pos h))
 small-float h l = whole-exact h (omega arith)
 
-module _ (q : Float) (h : ℕ) where
-  pub sure-high : le (ofInt binary64 (pos h)) q ≡ false → false ≡ isSure q h
-  unfolding isSure
-  sure-high a = rw a
-
-  pub sure-is : le (ofInt binary64 (pos h)) q ≡ true → lt q (add binary64 (ofInt binary64 (pos h)) (ofBits binary64 0x3ff0_0000_0000_0000)) ≡ isSure q h
-  unfolding isSure
-  sure-is a = rw a
-
 module _ (inside : Bool) (e : RegularBinEdges) (x : Float) where
   pub past-never : inside ≡ true → false ≡ isPast inside e x
   unfolding isPast
@@ -59,15 +50,20 @@ module _ (inside : Bool) (e : RegularBinEdges) (x : Float) where
     unfolding sureNumber
     sure-number n t k = rw (← er, t) k
 
--- h is the guess, s what its test answered
-module _ (q : Float) (h : ℕ) (eh : h ≡ guessOf q) (s : Bool) (es : s ≡ isSure q h) where
-  pub sure-guess : s ≡ true → h ≡ sureCut q
-  unfolding sureCut
-  sure-guess u = rw (← eh, ← es, u)
+-- h is the guess
+module _ (q : Float) (h : ℕ) (eh : h ≡ guessOf q) where
+  pub sure-high : le (ofInt binary64 (pos h)) q ≡ false → 2 ^ 64 - 1 ≡ sureCut q
+  unfolding sureCut isSure
+  sure-high a = rw (← eh, a)
 
-  pub sure-not : s ≡ false → 2 ^ 64 - 1 ≡ sureCut q
-  unfolding sureCut
-  sure-not u = rw (← eh, ← es, u)
+  module _ (a : le (ofInt binary64 (pos h)) q ≡ true) where
+    pub sure-guess : lt q (add binary64 (ofInt binary64 (pos h)) (ofBits binary64 0x3ff0_0000_0000_0000)) ≡ true → h ≡ sureCut q
+    unfolding sureCut isSure
+    sure-guess b = rw (← eh, a, b)
+
+    pub sure-low : lt q (add binary64 (ofInt binary64 (pos h)) (ofBits binary64 0x3ff0_0000_0000_0000)) ≡ false → 2 ^ 64 - 1 ≡ sureCut q
+    unfolding sureCut isSure
+    sure-low b = rw (← eh, a, b)
 
 -- ---- a tested guess is the number
 one : Whole (ofBits binary64 0x3ff0_0000_0000_0000) (pos 1)

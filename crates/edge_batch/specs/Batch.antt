@@ -13,7 +13,7 @@ use Rattle.reducer.specs.declared.BuiltEdges.{BuiltEdges}
 use Rattle.reducer.specs.declared.BuiltEdges.the-variants.{Regular, Irregular}
 use Rattle.reducer.specs.Consume.{builtBin}
 use Rattle.edge_table.specs.declared.Table.{Table}
-use Rattle.edge_table.specs.Table.{placeOf, sureAt, tableBin}
+use Rattle.edge_table.specs.Table.{flagOf, locatedBin, placeOf, sureAt}
 
 -- the bin, or a number past every bin
 abbrev pub numberOr : Option ℕ → ℕ
@@ -66,7 +66,7 @@ sure inside Irregular list hints table x = sureAt list hints x (placeOf inside t
 -- a value's number by the edges alone; of regular edges it may also be an index past the bins
 abbrev pub settled : Bool → BuiltEdges → List Float → Table → Float → ℕ
 settled inside (Regular e) list table x = numberFor inside e x
-settled inside Irregular list table x = numberOr (tableBin Irregular list table x)
+settled inside Irregular list table x = cond (eqb (flagOf (table .first) (table .last) x) 0) 4096 (numberOr (locatedBin list x))
 
 -- n where it is no mark
 unfoldable pub settledOr : Bool → BuiltEdges → List Float → Table → Float → ℕ → ℕ

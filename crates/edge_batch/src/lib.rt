@@ -9,7 +9,7 @@ ghost use Prim.Native.Nat.{_<_};
 ghost use lib.ListN.{length};
 ghost use Rattle.bins.specs.Answers.{indexOf};
 ghost use Rattle.edge_table.specs.Table.{placeOf, sureAt};
-ghost use Rattle.edge_batch.specs.Batch.{numberOr, guessOf, isSure, isPast, numberFor, sureCut, sureNumber, AtMost, each, sure, settled, settledOr, foundOf};
+ghost use Rattle.edge_batch.specs.Batch.{numberOr, guessOf, isPast, numberFor, sureCut, sureNumber, AtMost, each, sure, settled, settledOr, foundOf};
 
 fn number_of(bin: BinIndex) -> usize
     ensures { λ r. ⌜ r ≡ numberOr (indexOf bin) ⌝ }
@@ -59,19 +59,6 @@ fn guess_of(q: f64) -> usize
     ((floats::to_bits(q + 2147483648.0) / 2097152) % 4096) as usize
 }
 
-// Whether h is q without its fraction.
-fn is_sure(q: f64, h: usize) -> bool
-    requires { ⌜ h < 4096 ⌝ }
-    ensures { λ r. ⌜ r ≡ isSure q h ⌝ }
-{
-    let f = h as f64;
-    let next = f + 1.0;
-    if f <= q {
-        return q < next;
-    }
-    false
-}
-
 // Past an end, unless it is known that no value is.
 fn is_past(inside: bool, e: RegularBinEdges, x: f64) -> bool
     ensures { λ r. ⌜ r ≡ isPast inside e x ⌝ }
@@ -100,7 +87,14 @@ fn sure_cut(q: f64) -> usize
     ensures { λ r. ⌜ r ≡ sureCut q ⌝ }
 {
     let h = guess_of(q);
-    if is_sure(q, h) { h } else { usize::MAX }
+    let f = h as f64;
+    let next = f + 1.0;
+    if f <= q {
+        if q < next {
+            return h;
+        }
+    }
+    usize::MAX
 }
 
 // The same as number_for where a guess is right. The quotient is made first: what is left is a choice of two numbers, not a branch.
@@ -157,7 +151,12 @@ fn settled_number(inside: bool, edges: BuiltEdges, list: &[f64], table: Table, x
 {
     match edges {
         BuiltEdges::Regular(e) => number_for(inside, e, x),
-        BuiltEdges::Irregular => number_of(edge_table::bin_of(edges, list, table, x)),
+        BuiltEdges::Irregular => {
+            if edge_table::flag(table, x) == 0 {
+                return 4096;
+            }
+            number_of(edge_table::located_bin(list, x))
+        }
     }
 }
 

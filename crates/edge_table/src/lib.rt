@@ -199,7 +199,8 @@ fn locate(list: &[f64], x: f64) -> usize
     climb_by(list, x, 1, e)
 }
 
-fn located_bin(list: &[f64], x: f64) -> BinIndex
+// The bin of a value that is past no end of accepted edges.
+pub fn located_bin(list: &[f64], x: f64) -> BinIndex
     ensures { λ r. ⌜ indexOf r ≡ locatedBin (now (list .entry)) x ⌝ }
 {
     let h = locate(list, x);

@@ -1,4 +1,4 @@
-use Rattle.edge_batch.proofs.Batch.{settled-regular, settled-irregular}
+use Rattle.edge_batch.proofs.Batch.{settled-past, settled-irregular, settled-regular}
 use borrow.Author.Needs.{needs}
 use Rattle.edge_batch.proofs.settled_number.Statement.{statement}
 use Rattle.edge_batch.proofs.settled_number.Tie as tie
@@ -6,35 +6,44 @@ use Rattle.edge_batch.proofs.settled_number.Reads as reads
 use Rattle.edge_batch.proofs.settled_number.Lts as lts
 use Rattle.edge_batch.proofs.number_for.Reads as number-for-reads
 use Rattle.edge_batch.proofs.number_of.Reads as number-of-reads
-use Rattle.edge_table.proofs.bin_of.Reads as bin-of-reads
+use Rattle.edge_table.proofs.flag.Reads as flag-reads
+use Rattle.edge_table.proofs.located_bin.Reads as located-bin-reads
 
--- src/lib.rt:158:29
+-- src/lib.rt:153:29
 enum-known-edges : tie.Need-enum-known-edges
 enum-known-edges c = search needs
 
--- src/lib.rt:158:35
+-- src/lib.rt:153:35
 number-for-requires : tie.Need-number-for-requires
 number-for-requires c κs = search needs
 
--- src/lib.rt:159:44
+-- src/lib.rt:155:16
 enum-told : tie.Need-enum-told
 enum-told c = search needs
 
--- src/lib.rt:159:44
-bin-of-requires : tie.Need-bin-of-requires
-bin-of-requires c κs = search needs
+-- src/lib.rt:155:16
+flag-requires : tie.Need-flag-requires
+flag-requires c κs = search needs
 
--- src/lib.rt:159:34
+-- src/lib.rt:156:17
+returns : tie.Need-returns
+returns c = search settled-past
+
+-- src/lib.rt:158:23
+located-bin-requires : tie.Need-located-bin-requires
+located-bin-requires c κs = search needs
+
+-- src/lib.rt:158:13
 number-of-requires : tie.Need-number-of-requires
 number-of-requires c κs = search needs
 
--- src/lib.rt:154:1
-returns : tie.Need-returns
-returns c = search settled-regular
-
--- src/lib.rt:154:1
+-- src/lib.rt:149:1
 returns-2 : tie.Need-returns-2
-returns-2 c = search settled-irregular
+returns-2 c = search settled-regular
+
+-- src/lib.rt:149:1
+returns-3 : tie.Need-returns-3
+returns-3 c = search settled-irregular
 
 pub settled-number-spec : {M : Type 1} → statement M
 settled-number-spec =
@@ -43,7 +52,9 @@ settled-number-spec =
     enum-known-edges
     number-for-requires
     enum-told
-    bin-of-requires
-    number-of-requires
+    flag-requires
     returns
-    returns-2)
+    located-bin-requires
+    number-of-requires
+    returns-2
+    returns-3)
