@@ -168,7 +168,7 @@ module _ (es : List Float) (u : Searchable es) (x : Float) (f : fits binary64 x 
       let o : outside es x ≡ false = rw (finite-number x (m .0), above-first g w (m .1) (m .0), below-last g w (q .1) (m .0)) in
       keyed-bin es u x f g w (m .1) (key-less x (at es (g + 1)) (subst T (sym f) tt) (u .held (g + 1)) (m .0) b (q .1)) o
 
-  shown-bin : (g : ℕ) → shown es x g ≡ true → some g ≡ builtBin Irregular es x
+  pub shown-bin : (g : ℕ) → shown es x g ≡ true → some g ≡ builtBin Irregular es x
   unfolding shown
   shown-bin g c =
       let p = and-true (nonzero x) (enclosed es x g) c in

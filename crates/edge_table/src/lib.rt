@@ -139,7 +139,7 @@ fn is_enclosed(list: &[f64], x: f64, h: usize) -> bool
 }
 
 // The edges show that bin h holds x, if that is no zero.
-fn is_shown(list: &[f64], x: f64, h: usize) -> bool
+pub fn is_shown(list: &[f64], x: f64, h: usize) -> bool
     ensures { λ r. ⌜ r ≡ shown (now (list .entry)) x h ⌝ }
 {
     if x != 0.0 {
@@ -184,8 +184,8 @@ fn climb_by(list: &[f64], x: f64, w: usize, b: usize) -> usize
     b + (p + q + r)
 }
 
-// The search by quarters.
-fn locate(list: &[f64], x: f64) -> usize
+// The search by quarters: a guess.
+pub fn locate(list: &[f64], x: f64) -> usize
     ensures { λ r. ⌜ (r ≡ located (now (list .entry)) x) × (r ≤ 255) ⌝ }
 {
     if list.len() <= 33 {
@@ -199,8 +199,7 @@ fn locate(list: &[f64], x: f64) -> usize
     climb_by(list, x, 1, e)
 }
 
-// The bin of a value that is past no end of accepted edges.
-pub fn located_bin(list: &[f64], x: f64) -> BinIndex
+fn located_bin(list: &[f64], x: f64) -> BinIndex
     ensures { λ r. ⌜ indexOf r ≡ locatedBin (now (list .entry)) x ⌝ }
 {
     let h = locate(list, x);
