@@ -8,9 +8,9 @@ use native.Mathlib.Nat.{le-trans}
 use native.Mathlib.Omega.{arith}
 use lib.Dec.{ltb, eqb, T}
 use lib.ListN.{length, getD, length-map}
-use lib.Ieee.{Float, lt, le, eq, ne, binary64, add, mul, ofBits, toBits, fits}
+use lib.Ieee.{Float, lt, le, eq, ne, isNan, binary64, add, mul, ofBits, toBits, fits}
 use lib.Ieee.Bits.{is-true}
-use borrow.Author.Tests.{lt-ltb, le-ltb, ltb-true, eq-eqb, ne-eqb}
+use borrow.Author.Tests.{lt-ltb, le-ltb, ltb-true, eq-eqb, ne-eqb, eqb-true, eqb-false}
 use Rattle.definitions.specs.Lists.{at}
 use Rattle.definitions.specs.Floats.{asUsize}
 use Rattle.definitions.specs.Bins as definitions
@@ -22,10 +22,11 @@ use Rattle.reducer.specs.Consume as consume
 use Rattle.reducer.specs.Consume.{builtBins, builtFind, builtBin}
 use Rattle.reducer.proofs.Placewise.{below-again}
 use Rattle.edge_table.specs.declared.Table.{Table}
-use Rattle.edge_table.specs.Table.{endOf, placeOf, nearHint, bit, flagOf, pastEnd, enclosed, nonzero, shown, located, sureAt}
+use Rattle.edge_table.specs.Table.{endOf, placeOf, nearHint, bit, flagOf, pastEnd, enclosed, nonzero, shown, located, heldBin, locatedBin, sureAt}
 use Rattle.edge_table.specs.Tabled.{Tabled}
 use Rattle.edge_table.proofs.Ways.{end-le}
-use Rattle.edge_table.proofs.Lookup.{bin-low, bin-high, enclosed-bin, shown-bin}
+use Rattle.edge_table.proofs.Lookup.{outside, bin-low, bin-high, enclosed-bin, located-found}
+use Rattle.edge_table.proofs.Tests.{located-shown, located-held}
 use Rattle.edge_batch.specs.Batch.{numberOr, quotient, isPast, numberFor, sureNumber, AtMost, each, sure, settled, settledOr, batchNumber, foundOf, numberIn}
 use Rattle.edge_batch.proofs.Loops.{each-map}
 use Rattle.edge_batch.proofs.Cuts.{sure-within}
@@ -40,24 +41,29 @@ module _ (inside : Bool) (edges : BuiltEdges) (list : List Float) (hints : List 
   sure-irregular places l t p q = q ∙ ap (each (sureAt list hints) x) p ∙ each-map (sureAt list hints) (placeOf inside table) x ∙ (λ i. map (sure inside (sym t i) list hints table) x)
 
 -- ---- the second
-module _ (inside : Bool) (edges : BuiltEdges) (list : List Float) (x : Float) where
-  pub settled-regular : (e : RegularBinEdges) (n : ℕ) → edges ≡ Regular e → n ≡ numberFor inside e x → n ≡ settled inside edges list x
-  settled-regular e n t p = p ∙ (λ i. settled inside (sym t i) list x)
+module _ (inside : Bool) (edges : BuiltEdges) (list : List Float) (table : Table) (x : Float) where
+  pub settled-regular : (e : RegularBinEdges) (n : ℕ) → edges ≡ Regular e → n ≡ numberFor inside e x → n ≡ settled inside edges list table x
+  settled-regular e n t p = p ∙ (λ i. settled inside (sym t i) list table x)
 
-  -- h is the answer of `locate`, r of `is_shown`, o of `bin_of`
-  module _ (t : edges ≡ Irregular) (h : ℕ) (e : h ≡ located list x) (r : Bool) (q : r ≡ shown list x h) where
-    pub settled-shown : r ≡ true → h ≡ settled inside edges list x
-    settled-shown z = rw (t, ← e, ← q, z)
+  -- r is the answer of `flag`
+  module _ (r : ℕ) (t : edges ≡ Irregular) (e : r ≡ flagOf (table .first) (table .last) x) where
+    pub settled-past : r ≡ 0 → 4096 ≡ settled inside edges list table x
+    settled-past z = rw (t, ← e, eq-eqb r 0 z)
 
-    pub settled-plain : (o : Option ℕ) (n : ℕ) → r ≡ false → o ≡ builtBin edges list x → n ≡ numberOr o → n ≡ settled inside edges list x
-    settled-plain o n z p k = k ∙ ap numberOr (p ∙ ap (λ (d : BuiltEdges). builtBin d list x) t) ∙ sym (rw (t, ← e, ← q, z))
+    -- h is the answer of `locate`, s of `is_shown`, o of `held_bin`
+    module _ (z : r ≡ 0 → ⊥) (h : ℕ) (g : h ≡ located list x) (s : Bool) (q : s ≡ shown list x h) where
+      pub settled-shown : s ≡ true → h ≡ settled inside edges list table x
+      settled-shown y = ap numberOr (located-shown list x h g s q y) ∙ sym (rw (t, ← e, ne-eqb r 0 z))
+
+      pub settled-held : (o : Option ℕ) (n : ℕ) → s ≡ false → o ≡ heldBin list x h → n ≡ numberOr o → n ≡ settled inside edges list table x
+      settled-held o n y p k = k ∙ ap numberOr (located-held list x h g s q o y p) ∙ sym (rw (t, ← e, ne-eqb r 0 z))
 
   module _ (n : ℕ) where
-    pub settled-marked : (v : ℕ) → 8192 ≤ n → v ≡ settled inside edges list x → v ≡ settledOr inside edges list x n
+    pub settled-marked : (v : ℕ) → 8192 ≤ n → v ≡ settled inside edges list table x → v ≡ settledOr inside edges list table x n
     unfolding settledOr
     settled-marked v h p = rw (le-ltb n 8192 h) p
 
-    pub settled-kept : n < 8192 → n ≡ settledOr inside edges list x n
+    pub settled-kept : n < 8192 → n ≡ settledOr inside edges list table x n
     unfolding settledOr
     settled-kept h = rw (lt-ltb n 8192 h)
 
@@ -74,12 +80,12 @@ module _ (inside : Bool) (edges : BuiltEdges) (list : List Float) (hints : List 
 
     -- first is what the first loop left
     module _ (first : List ℕ) (s : first ≡ map (sure inside edges list hints table) x) where
-      pub found-settled : (l : List ℕ) → l ≡ each (settledOr inside edges list) x first → l ≡ foundOf inside edges list hints table x found
-      found-settled l p = p ∙ ap (each (settledOr inside edges list) x) s ∙ each-map (settledOr inside edges list) (sure inside edges list hints table) x ∙ sym found-map
+      pub found-settled : (l : List ℕ) → l ≡ each (settledOr inside edges list table) x first → l ≡ foundOf inside edges list hints table x found
+      found-settled l p = p ∙ ap (each (settledOr inside edges list table) x) s ∙ each-map (settledOr inside edges list table) (sure inside edges list hints table) x ∙ sym found-map
 
       all-kept : (y : List Float) → ((i : ℕ) → i < length y → getD (map (sure inside edges list hints table) y) i 0 < 8192) → map (sure inside edges list hints table) y ≡ map (batchNumber inside edges list hints table) y
       all-kept [] k = refl
-      all-kept (v ∷ y) k = λ i. settled-kept inside edges list v (sure inside edges list hints table v) (k 0 (omega arith)) i ∷ all-kept y (λ j l. k (suc j) (omega arith)) i
+      all-kept (v ∷ y) k = λ i. settled-kept inside edges list table v (sure inside edges list hints table v) (k 0 (omega arith)) i ∷ all-kept y (λ j l. k (suc j) (omega arith)) i
 
       -- nothing is marked
       pub found-sure : (m : ℕ) → AtMost m first → m < 8192 → first ≡ foundOf inside edges list hints table x found
@@ -135,12 +141,20 @@ module _ (es : List Float) (hints : List ℕ) (table : Table) where
       past-none true h = absurd (omega (arith, h))
       past-none false h = flag-none (omega (arith, h))
 
-      settled-found : (inside : Bool) → settled inside Irregular es x ≡ numberOr (builtBin Irregular es x)
-      settled-found inside = go (shown es x (located es x)) refl
+      flag-inside : (flagOf (table .first) (table .last) x ≡ 0 → ⊥) → isNan x ≡ false → outside es x ≡ false
+      flag-inside h n = rw n (go (lt x (table .first)) (le (table .last) x) refl refl h)
         where
-          go : (b : Bool) → shown es x (located es x) ≡ b → cond b (located es x) (numberOr (builtBin Irregular es x)) ≡ numberOr (builtBin Irregular es x)
-          go true e = ap numberOr (shown-bin es (t .usable) x f (located es x) e)
-          go false e = refl
+          go : (a b : Bool) → lt x (table .first) ≡ a → le (table .last) x ≡ b → ((1 - bit a) * (1 - bit b) ≡ 0 → ⊥) → (lt x (at es 0) || le (at es (length es - 1)) x) ≡ false
+          go true b e g k = absurd (k (omega arith))
+          go false true e g k = absurd (k (omega arith))
+          go false false e g k = rw (← t .ends .0, ← t .ends .1, e, g)
+
+      settled-found : (inside : Bool) → settled inside Irregular es table x ≡ numberOr (builtBin Irregular es x)
+      settled-found inside = go (eqb (flagOf (table .first) (table .last) x) 0) refl
+        where
+          go : (b : Bool) → eqb (flagOf (table .first) (table .last) x) 0 ≡ b → cond b 4096 (numberOr (locatedBin es x)) ≡ numberOr (builtBin Irregular es x)
+          go true e = ap numberOr (flag-none (eqb-true _ 0 e))
+          go false e = ap numberOr (located-found es (t .usable) x f (flag-inside (eqb-false _ 0 e)))
 
       -- past an end, a zero, or tried
       sure-found : (inside : Bool) → sureAt es hints x (placeOf inside table x) < 8192 → sureAt es hints x (placeOf inside table x) ≡ numberOr (builtBin Irregular es x)

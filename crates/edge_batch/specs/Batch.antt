@@ -13,7 +13,7 @@ use Rattle.reducer.specs.declared.BuiltEdges.{BuiltEdges}
 use Rattle.reducer.specs.declared.BuiltEdges.the-variants.{Regular, Irregular}
 use Rattle.reducer.specs.Consume.{builtBin}
 use Rattle.edge_table.specs.declared.Table.{Table}
-use Rattle.edge_table.specs.Table.{shown, located, placeOf, sureAt}
+use Rattle.edge_table.specs.Table.{flagOf, locatedBin, placeOf, sureAt}
 
 -- the bin, or a number past every bin
 abbrev pub numberOr : Option ℕ → ℕ
@@ -63,17 +63,17 @@ abbrev pub sure : Bool → BuiltEdges → List Float → List ℕ → Table → 
 sure inside (Regular e) list hints table x = sureNumber inside e x
 sure inside Irregular list hints table x = sureAt list hints x (placeOf inside table x)
 
--- a value's number by the edges alone: of irregular ones what the search finds, where the edges show it, else the plain lookup's; of regular ones it may also be an index past the bins
-abbrev pub settled : Bool → BuiltEdges → List Float → Float → ℕ
-settled inside (Regular e) list x = numberFor inside e x
-settled inside Irregular list x = cond (shown list x (located list x)) (located list x) (numberOr (builtBin Irregular list x))
+-- a value's number by the edges alone; of regular edges it may also be an index past the bins
+abbrev pub settled : Bool → BuiltEdges → List Float → Table → Float → ℕ
+settled inside (Regular e) list table x = numberFor inside e x
+settled inside Irregular list table x = cond (eqb (flagOf (table .first) (table .last) x) 0) 4096 (numberOr (locatedBin list x))
 
 -- n where it is no mark
-unfoldable pub settledOr : Bool → BuiltEdges → List Float → Float → ℕ → ℕ
-settledOr inside edges list x n = cond (ltb n 8192) n (settled inside edges list x)
+unfoldable pub settledOr : Bool → BuiltEdges → List Float → Table → Float → ℕ → ℕ
+settledOr inside edges list table x n = cond (ltb n 8192) n (settled inside edges list table x)
 
 abbrev pub batchNumber : Bool → BuiltEdges → List Float → List ℕ → Table → Float → ℕ
-batchNumber inside edges list hints table x = settledOr inside edges list x (sure inside edges list hints table x)
+batchNumber inside edges list hints table x = settledOr inside edges list table x (sure inside edges list hints table x)
 
 -- each value's number; as they were where the lengths differ
 unfoldable pub foundOf : Bool → BuiltEdges → List Float → List ℕ → Table → List Float → List ℕ → List ℕ

@@ -145,31 +145,41 @@ fn sure_of(
     }
 }
 
-// A value's number by the edges alone. The search stands by itself, since it has two callers: so the compiler keeps the lookup of one value small, and its answer in registers.
-fn settled_number(inside: bool, edges: BuiltEdges, list: &[f64], x: f64) -> usize
-    ensures { λ r. ⌜ r ≡ settled inside edges (now (list .entry)) x ⌝ }
+// A value's number by the edges alone. The search and what follows it have two callers, here and the lookup of one value: so the compiler keeps that short, and its answer in registers.
+fn settled_number(inside: bool, edges: BuiltEdges, list: &[f64], table: Table, x: f64) -> usize
+    ensures { λ r. ⌜ r ≡ settled inside edges (now (list .entry)) table x ⌝ }
 {
     match edges {
         BuiltEdges::Regular(e) => number_for(inside, e, x),
         BuiltEdges::Irregular => {
+            if edge_table::flag(table, x) == 0 {
+                return 4096;
+            }
             let h = edge_table::locate(list, x);
             if edge_table::is_shown(list, x, h) {
                 return h;
             }
-            number_of(reducer::bin_of(edges, list, x))
+            number_of(edge_table::held_bin(list, x, h))
         }
     }
 }
 
 // Finds what is marked.
-fn settle(inside: bool, edges: BuiltEdges, list: &[f64], x: &[f64], found: &mut [usize])
+fn settle(
+    inside: bool,
+    edges: BuiltEdges,
+    list: &[f64],
+    table: Table,
+    x: &[f64],
+    found: &mut [usize],
+)
     requires { ⌜ length (now found) ≡ length (now x) ⌝ }
-    ensures { λ _. ⌜ now (found .exit) ≡ each (settledOr inside edges (now (list .entry))) (now (x .entry)) (now (found .entry)) ⌝ }
+    ensures { λ _. ⌜ now (found .exit) ≡ each (settledOr inside edges (now (list .entry)) table) (now (x .entry)) (now (found .entry)) ⌝ }
 {
     let mut q = 0;
     while q < x.len() {
         if found[q] >= 8192 {
-            found[q] = settled_number(inside, edges, list, x[q]);
+            found[q] = settled_number(inside, edges, list, table, x[q]);
         }
         q += 1;
     }
@@ -193,6 +203,6 @@ pub fn bins_of(
     }
     let all = sure_of(inside, edges, list, hints, table, x, &mut *found);
     if all >= 8192 {
-        settle(inside, edges, list, x, found);
+        settle(inside, edges, list, table, x, found);
     }
 }

@@ -12,10 +12,10 @@ use Rattle.edge_batch.proofs.settle.Lts as lts
 use Rattle.edge_batch.proofs.settled_number.Reads as settled-number-reads
 
 abbrev Inv-loop : tie.InvT-loop
-Inv-loop inside edges list x found₀ q₀ found q = Done (settledOr inside edges list) x found₀ q found
+Inv-loop inside edges list table x found₀ q₀ found q = Done (settledOr inside edges list table) x found₀ q found
 
 abbrev μ-loop : tie.MeasureT-loop
-μ-loop inside edges list x found₀ q₀ found q = length x - q
+μ-loop inside edges list table x found₀ q₀ found q = length x - q
 
 -- src/lib.rt:176:5
 loop-holds : tie.Need-loop-holds Inv-loop μ-loop
@@ -62,7 +62,7 @@ loop-again : tie.Need-loop-again Inv-loop μ-loop
 loop-again c =
     let t = c .before .before .before .loop in
     let h = c .before .before .loop-test .taken in
-    ⊎-elim (λ w. each-next _ _ _ _ _ (t .inv) _ _ h (w .3) (settled-marked _ _ _ _ _ _ (w .0 .taken) (w .2 .ensures))) (λ w. each-kept _ _ _ _ _ (t .inv) _ h (w .1) (settled-kept _ _ _ _ _ (w .0 .left))) (c .if1 .came)
+    ⊎-elim (λ w. each-next _ _ _ _ _ (t .inv) _ _ h (w .3) (settled-marked _ _ _ _ _ _ _ (w .0 .taken) (w .2 .ensures))) (λ w. each-kept _ _ _ _ _ (t .inv) _ h (w .1) (settled-kept _ _ _ _ _ _ (w .0 .left))) (c .if1 .came)
 
 -- src/lib.rt:164:1
 same-length : tie.Need-same-length Inv-loop μ-loop
