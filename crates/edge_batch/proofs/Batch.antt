@@ -22,11 +22,11 @@ use Rattle.reducer.specs.Consume as consume
 use Rattle.reducer.specs.Consume.{builtBins, builtFind, builtBin}
 use Rattle.reducer.proofs.Placewise.{below-again}
 use Rattle.edge_table.specs.declared.Table.{Table}
-use Rattle.edge_table.specs.Table.{endOf, placeOf, nearHint, bit, flagOf, pastEnd, enclosed, nonzero, shown, located, heldBin, locatedBin, sureAt}
+use Rattle.edge_table.specs.Table.{endOf, placeOf, nearHint, bit, flagOf, pastEnd, enclosed, nonzero, shown, located, locatedBin, sureAt}
 use Rattle.edge_table.specs.Tabled.{Tabled}
 use Rattle.edge_table.proofs.Ways.{end-le}
 use Rattle.edge_table.proofs.Lookup.{outside, bin-low, bin-high, enclosed-bin, located-found}
-use Rattle.edge_table.proofs.Tests.{located-shown, located-held}
+use Rattle.edge_table.proofs.Tests.{located-shown}
 use Rattle.edge_batch.specs.Batch.{numberOr, quotient, isPast, numberFor, sureNumber, AtMost, each, sure, settled, settledOr, batchNumber, foundOf, numberIn}
 use Rattle.edge_batch.proofs.Loops.{each-map}
 use Rattle.edge_batch.proofs.Cuts.{sure-within}
@@ -50,13 +50,13 @@ module _ (inside : Bool) (edges : BuiltEdges) (list : List Float) (table : Table
     pub settled-past : r ≡ 0 → 4096 ≡ settled inside edges list table x
     settled-past z = rw (t, ← e, eq-eqb r 0 z)
 
-    -- h is the answer of `locate`, s of `is_shown`, o of `held_bin`
-    module _ (z : r ≡ 0 → ⊥) (h : ℕ) (g : h ≡ located list x) (s : Bool) (q : s ≡ shown list x h) where
-      pub settled-shown : s ≡ true → h ≡ settled inside edges list table x
-      settled-shown y = ap numberOr (located-shown list x h g s q y) ∙ sym (rw (t, ← e, ne-eqb r 0 z))
+    -- h is the answer of `locate`, s of `is_shown`, o of `located_bin`
+    module _ (z : r ≡ 0 → ⊥) where
+      pub settled-shown : (h : ℕ) → h ≡ located list x → (s : Bool) → s ≡ shown list x h → s ≡ true → h ≡ settled inside edges list table x
+      settled-shown h g s q y = ap numberOr (located-shown list x h g s q y) ∙ sym (rw (t, ← e, ne-eqb r 0 z))
 
-      pub settled-held : (o : Option ℕ) (n : ℕ) → s ≡ false → o ≡ heldBin list x h → n ≡ numberOr o → n ≡ settled inside edges list table x
-      settled-held o n y p k = k ∙ ap numberOr (located-held list x h g s q o y p) ∙ sym (rw (t, ← e, ne-eqb r 0 z))
+      pub settled-located : (o : Option ℕ) (n : ℕ) → o ≡ locatedBin list x → n ≡ numberOr o → n ≡ settled inside edges list table x
+      settled-located o n p k = k ∙ ap numberOr p ∙ sym (rw (t, ← e, ne-eqb r 0 z))
 
   module _ (n : ℕ) where
     pub settled-marked : (v : ℕ) → 8192 ≤ n → v ≡ settled inside edges list table x → v ≡ settledOr inside edges list table x n

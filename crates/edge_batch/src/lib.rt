@@ -145,7 +145,7 @@ fn sure_of(
     }
 }
 
-// A value's number by the edges alone. The search and what follows it have two callers, here and the lookup of one value: so the compiler keeps that short, and its answer in registers.
+// A value's number by the edges alone. The search and the located bin have a caller here besides the lookup of one value: so the compiler keeps that short, and its answer in registers.
 fn settled_number(inside: bool, edges: BuiltEdges, list: &[f64], table: Table, x: f64) -> usize
     ensures { λ r. ⌜ r ≡ settled inside edges (now (list .entry)) table x ⌝ }
 {
@@ -159,7 +159,7 @@ fn settled_number(inside: bool, edges: BuiltEdges, list: &[f64], table: Table, x
             if edge_table::is_shown(list, x, h) {
                 return h;
             }
-            number_of(edge_table::held_bin(list, x, h))
+            number_of(edge_table::located_bin(list, x))
         }
     }
 }

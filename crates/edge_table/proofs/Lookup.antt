@@ -32,7 +32,7 @@ use Rattle.reducer.specs.declared.Reducer.the-variants.{Comp0Mean, ComponentSum
 use Rattle.reducer.specs.Readings.{edgesOf, kindOf}
 use Rattle.reducer.specs.Consume.{madeEdges, made, builtBin}
 use Rattle.edge_table.specs.declared.Table.{Table}
-use Rattle.edge_table.specs.Table.{tableOf, enclosed, nonzero, shown, holds, located, heldBin, locatedBin, outsideOf, edgeBin, tableBin, valueTableOf}
+use Rattle.edge_table.specs.Table.{tableOf, enclosed, nonzero, shown, holds, located, locatedBin, outsideOf, edgeBin, tableBin, valueTableOf}
 use Rattle.edge_table.specs.Tabled.{Searchable, Usable, EndsOf, Tabled, UsableValues, TabledValues}
 use Rattle.edge_table.proofs.Order.{lt-self, lt-finite, eq-finite, le-lt}
 
@@ -185,7 +185,7 @@ module _ (es : List Float) (u : Searchable es) (x : Float) (f : fits binary64 x 
       keyed-bin es u x f g (ltb-true _ _ (r .1)) (leb-true _ _ (q .1)) (ltb-true _ _ (p .1)) (inside (not-true (isNan x) (r .0)))
 
   pub located-found : locatedBin es x ≡ builtBin Irregular es x
-  unfolding locatedBin heldBin
+  unfolding locatedBin
   located-found = tested (shown es x (located es x)) (located es x) _ _ (shown-bin es u x f (located es x)) (tested (holds es x (located es x)) (located es x) _ _ (held-bin (located es x)) refl)
 
 -- ---- a table's edges

@@ -14,7 +14,7 @@ use Rattle.floats.specs.Order.{orderKey}
 use Rattle.reducer.specs.declared.BuiltEdges.the-variants.{Irregular}
 use Rattle.reducer.specs.Consume.{builtBin}
 use Rattle.edge_table.specs.declared.Table.{Table}
-use Rattle.edge_table.specs.Table.{bit, endOf, enclosed, nonzero, shown, holds, stepUp, climb, located, heldBin, locatedBin, flagOf, pastEnd, placeOf, nearHint, sureAt}
+use Rattle.edge_table.specs.Table.{bit, endOf, enclosed, nonzero, shown, holds, stepUp, climb, located, locatedBin, flagOf, pastEnd, placeOf, nearHint, sureAt}
 use Rattle.edge_table.proofs.Order.{le-not, lt-le}
 
 -- ---- the tests of a bin
@@ -80,25 +80,20 @@ module _ (list : List Float) (x : Float) (h : ℕ) where
   unfolding shown
   shown-is s z e = rw z e
 
--- t is the answer of `is_held`, o of `bin_of`
-module _ (list : List Float) (x : Float) (h : ℕ) (t : Bool) (k : t ≡ holds list x h) where
-  pub held-is : t ≡ true → some h ≡ heldBin list x h
-  unfolding heldBin
-  held-is z = rw (← k, z)
-
-  pub held-plain : (o : Option ℕ) → t ≡ false → o ≡ builtBin Irregular list x → o ≡ heldBin list x h
-  unfolding heldBin
-  held-plain o z p = rw (← k, z) p
-
--- ---- one value; g is the answer of `locate`, s of `is_shown`, o of `held_bin`
+-- ---- one value; g is the answer of `locate`, s of `is_shown`, t of `is_held`
 module _ (list : List Float) (x : Float) (g : ℕ) (e : g ≡ located list x) (s : Bool) (q : s ≡ shown list x g) where
   pub located-shown : s ≡ true → some g ≡ locatedBin list x
   unfolding locatedBin
   located-shown h = rw (← e, ← q, h)
 
-  pub located-held : (o : Option ℕ) → s ≡ false → o ≡ heldBin list x g → o ≡ locatedBin list x
-  unfolding locatedBin
-  located-held o h p = rw (← e, ← q, h) p
+  module _ (a : s ≡ false) (t : Bool) (k : t ≡ holds list x g) where
+    pub located-held : t ≡ true → some g ≡ locatedBin list x
+    unfolding locatedBin
+    located-held h = rw (← e, ← q, a, ← k, h)
+
+    pub located-plain : (o : Option ℕ) → t ≡ false → o ≡ builtBin Irregular list x → o ≡ locatedBin list x
+    unfolding locatedBin
+    located-plain o h p = rw (← e, ← q, a, ← k, h) p
 
 -- t is the edge that was read, w the answer of `step_up`
 module _ (list : List Float) (x t : Float) (h : ℕ) (e : t ≡ at list h) where

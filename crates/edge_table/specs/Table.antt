@@ -84,13 +84,9 @@ unfoldable pub located : List Float → Float → ℕ
 located list x =
     cond (leb (length list) 33) (climb list x 2 (climb list x 8 0) + stepUp list x (climb list x 2 (climb list x 8 0) + 1) 1) (climb list x 1 (climb list x 4 (climb list x 16 (climb list x 64 0))))
 
--- h where the keys show it, else the plain lookup
-unfoldable pub heldBin : List Float → Float → ℕ → Option ℕ
-heldBin list x h = cond (holds list x h) (some h) (builtBin Irregular list x)
-
 -- what the search by quarters finds, tested by the edges, then by the keys; else the plain lookup
 unfoldable pub locatedBin : List Float → Float → Option ℕ
-locatedBin list x = cond (shown list x (located list x)) (some (located list x)) (heldBin list x (located list x))
+locatedBin list x = cond (shown list x (located list x)) (some (located list x)) (cond (holds list x (located list x)) (some (located list x)) (builtBin Irregular list x))
 
 unfoldable pub outsideOf : Table → Float → Bool
 outsideOf table x = isNan x || lt x (table .first) || le (table .last) x

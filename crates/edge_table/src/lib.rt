@@ -8,7 +8,7 @@ ghost use lib.ListN.{length};
 ghost use Rattle.definitions.specs.Lists.{at};
 ghost use Rattle.floats.specs.Order.{orderKey};
 ghost use Rattle.bins.specs.Answers.{indexOf};
-ghost use Rattle.edge_table.specs.Table.{tableOf, placeOf, edgePlace, endOf, spread, binHinted, hintsOf, hintsFor, outsideOf, edgeBin, tableBin, noTable, valueTableOf, valueHintsFor, enclosed, shown, holds, stepUp, climb, located, locatedBin, heldBin, flagOf, pastEnd, nearHint, sureAt};
+ghost use Rattle.edge_table.specs.Table.{tableOf, placeOf, edgePlace, endOf, spread, binHinted, hintsOf, hintsFor, outsideOf, edgeBin, tableBin, noTable, valueTableOf, valueHintsFor, enclosed, shown, holds, stepUp, climb, located, locatedBin, flagOf, pastEnd, nearHint, sureAt};
 
 // Ends of the edges; a value's place of hints is scale times it plus offset.
 pub struct Table {
@@ -199,24 +199,18 @@ pub fn locate(list: &[f64], x: f64) -> usize
     climb_by(list, x, 1, e)
 }
 
-// Of a guess that the edges do not show: by the keys, else by the plain lookup.
-pub fn held_bin(list: &[f64], x: f64, h: usize) -> BinIndex
-    ensures { λ r. ⌜ indexOf r ≡ heldBin (now (list .entry)) x h ⌝ }
-{
-    if is_held(list, x, h) {
-        return BinIndex::At(h);
-    }
-    reducer::bin_of(BuiltEdges::Irregular, list, x)
-}
-
-fn located_bin(list: &[f64], x: f64) -> BinIndex
+// The bin of a value that is past no end.
+pub fn located_bin(list: &[f64], x: f64) -> BinIndex
     ensures { λ r. ⌜ indexOf r ≡ locatedBin (now (list .entry)) x ⌝ }
 {
     let h = locate(list, x);
     if is_shown(list, x, h) {
         return BinIndex::At(h);
     }
-    held_bin(list, x, h)
+    if is_held(list, x, h) {
+        return BinIndex::At(h);
+    }
+    reducer::bin_of(BuiltEdges::Irregular, list, x)
 }
 
 // Whether the value has no bin: a NaN, or outside the ends.

@@ -1,4 +1,4 @@
-use Rattle.edge_batch.proofs.Batch.{settled-regular, settled-past, settled-shown, settled-held}
+use Rattle.edge_batch.proofs.Batch.{settled-regular, settled-past, settled-shown, settled-located}
 use borrow.Author.Needs.{needs}
 use Rattle.edge_batch.proofs.settled_number.Statement.{statement}
 use Rattle.edge_batch.proofs.settled_number.Tie as tie
@@ -7,7 +7,7 @@ use Rattle.edge_batch.proofs.settled_number.Lts as lts
 use Rattle.edge_batch.proofs.number_for.Reads as number-for-reads
 use Rattle.edge_batch.proofs.number_of.Reads as number-of-reads
 use Rattle.edge_table.proofs.flag.Reads as flag-reads
-use Rattle.edge_table.proofs.held_bin.Reads as held-bin-reads
+use Rattle.edge_table.proofs.located_bin.Reads as located-bin-reads
 use Rattle.edge_table.proofs.is_shown.Reads as is-shown-reads
 use Rattle.edge_table.proofs.locate.Reads as locate-reads
 
@@ -44,8 +44,8 @@ returns-2 : tie.Need-returns-2
 returns-2 c = search settled-shown
 
 -- src/lib.rt:162:23
-held-bin-requires : tie.Need-held-bin-requires
-held-bin-requires c κs = search needs
+located-bin-requires : tie.Need-located-bin-requires
+located-bin-requires c κs = search needs
 
 -- src/lib.rt:162:13
 number-of-requires : tie.Need-number-of-requires
@@ -57,7 +57,7 @@ returns-3 c = search settled-regular
 
 -- src/lib.rt:149:1
 returns-4 : tie.Need-returns-4
-returns-4 c = search settled-held
+returns-4 c = search settled-located
 
 pub settled-number-spec : {M : Type 1} → statement M
 settled-number-spec =
@@ -71,7 +71,7 @@ settled-number-spec =
     locate-requires
     is-shown-requires
     returns-2
-    held-bin-requires
+    located-bin-requires
     number-of-requires
     returns-3
     returns-4)
