@@ -14,7 +14,7 @@ use Rattle.floats.specs.Order.{orderKey}
 use Rattle.reducer.specs.declared.BuiltEdges.the-variants.{Irregular}
 use Rattle.reducer.specs.Consume.{builtBin}
 use Rattle.edge_table.specs.declared.Table.{Table}
-use Rattle.edge_table.specs.Table.{bit, endOf, enclosed, nonzero, shown, holds, stepUp, climb, located, locatedBin, flagOf, pastEnd, placeOf, nearHint, sureAt}
+use Rattle.edge_table.specs.Table.{bit, endOf, enclosed, nonzero, shown, holds, stepUp, climb, located, locatedBin, flagOf, pastEnd, hintPlace, placeOf, nearHint, sureAt}
 use Rattle.edge_table.proofs.Order.{le-not, lt-le}
 
 -- ---- the tests of a bin
@@ -116,11 +116,10 @@ module _ (inside : Bool) (table : Table) (x : Float) where
   unfolding pastEnd
   past-is r i q = rw (i, q)
 
-  -- b is the answer of `to_bits`, r of `past_end`
-  pub place-is : (b r : ℕ) → b ≡ toBits binary64 (add binary64 (mul binary64 x (table .scale)) (table .offset)) → r ≡ pastEnd inside table x
-      → b % 4096 + (4096 * r + 8192 * bit (eq x (ofBits binary64 0))) ≡ placeOf inside table x
+  -- p is the answer of `hint_place`, r of `past_end`
+  pub place-is : (p r : ℕ) → p ≡ hintPlace table x → r ≡ pastEnd inside table x → p + (4096 * r + 8192 * bit (eq x (ofBits binary64 0))) ≡ placeOf inside table x
   unfolding placeOf
-  place-is b r e q = rw (e, q)
+  place-is p r e q = rw (e, q)
 
 -- ---- a hint's trial; m is the answer of `end_of`
 module _ (list : List Float) (hints : List ℕ) (x : Float) (p m : ℕ) (e : m ≡ endOf 4096 (length hints)) where

@@ -21,7 +21,7 @@ use Rattle.reducer.specs.declared.Reducer.{Reducer}
 use Rattle.reducer.specs.declared.Reducer.the-variants.{ComponentSumHistogram}
 use Rattle.reducer.specs.Consume.{builtBin}
 use Rattle.edge_table.specs.declared.Table.{Table}
-use Rattle.edge_table.specs.Table.{tableOf, edgePlace, endOf, spread, binHinted, hintsOf, hintsFor, bit, locatedBin, outsideOf, edgeBin, tableBin, valueTableOf, valueHintsFor}
+use Rattle.edge_table.specs.Table.{tableOf, hintPlace, endOf, spread, binHinted, hintsOf, hintsFor, bit, locatedBin, outsideOf, edgeBin, tableBin, valueTableOf, valueHintsFor}
 
 -- ---- hints
 module _ (q m : ℕ) where
@@ -61,7 +61,7 @@ module _ (p b : ℕ) (hints : List ℕ) where
       inv ∙ ap (λ (n : ℕ). spread p b n hints) z
 
 -- p, q and e are the calls' answers
-pub hinted-is : (table : Table) (list : List Float) (b p q e : ℕ) (hints r : List ℕ) → p ≡ edgePlace table (at list b) → q ≡ edgePlace table (at list (b + 1)) → e ≡ endOf q (length hints)
+pub hinted-is : (table : Table) (list : List Float) (b p q e : ℕ) (hints r : List ℕ) → p ≡ hintPlace table (at list b) → q ≡ hintPlace table (at list (b + 1)) → e ≡ endOf (q + 1) (length hints)
     → r ≡ spread p (b % 256) (e - p) hints → r ≡ binHinted table list b hints
 unfolding binHinted
 hinted-is table list b p q e hints r x y z f = rw (← x, ← y, ← z) f

@@ -23,9 +23,9 @@ tableOf Irregular list span =
     record { first = at list 0; last = at list (length list - 1); scale = scale; offset = sub binary64 (ofBits binary64 0x4330_0000_0000_0001) (mul binary64 (at list 0) scale) }
 
 -- ---- hints
--- an edge's place: with 2^52 in the offset the sum is rounded to a whole number, which the low bits then hold; half a place on, so the first whose middle is not below it
-unfoldable pub edgePlace : Table → Float → ℕ
-edgePlace table x = toBits binary64 (add binary64 (add binary64 (mul binary64 x (table .scale)) (ofBits binary64 0x3fe0_0000_0000_0000)) (table .offset)) % 4096
+-- a place of hints: with 2^52 in the offset the sum is rounded to a whole number, which the low bits then hold
+unfoldable pub hintPlace : Table → Float → ℕ
+hintPlace table x = toBits binary64 (add binary64 (mul binary64 x (table .scale)) (table .offset)) % 4096
 
 -- the end of the places before q in a slice of m
 unfoldable pub endOf : ℕ → ℕ → ℕ
@@ -36,10 +36,10 @@ unfoldable pub spread : ℕ → ℕ → ℕ → List ℕ → List ℕ
 spread p b zero hints = hints
 spread p b (suc i) hints = set (spread p b i hints) (p + i) b
 
--- bin b at the places from its lower edge's up to its upper edge's
+-- bin b at the places from its lower edge's to its upper edge's, which the next bin then takes: an edge's place has the bin above it
 unfoldable pub binHinted : Table → List Float → ℕ → List ℕ → List ℕ
 binHinted table list b hints =
-    spread (edgePlace table (at list b)) (b % 256) (endOf (edgePlace table (at list (b + 1))) (length hints) - edgePlace table (at list b)) hints
+    spread (hintPlace table (at list b)) (b % 256) (endOf (hintPlace table (at list (b + 1)) + 1) (length hints) - hintPlace table (at list b)) hints
 
 -- the first n bins
 unfoldable pub hintsOf : Table → List Float → ℕ → List ℕ → List ℕ
@@ -110,7 +110,7 @@ pastEnd inside table x = cond inside 0 (1 - flagOf (table .first) (table .last) 
 -- a value's place of hints, 4,096 more past the ends, and 8,192 more for a zero
 unfoldable pub placeOf : Bool → Table → Float → ℕ
 placeOf inside table x =
-    toBits binary64 (add binary64 (mul binary64 x (table .scale)) (table .offset)) % 4096 + (4096 * pastEnd inside table x + 8192 * bit (eq x (ofBits binary64 0)))
+    hintPlace table x + (4096 * pastEnd inside table x + 8192 * bit (eq x (ofBits binary64 0)))
 
 -- h, or the bin beside it to which the value points
 unfoldable pub nearHint : List Float → Float → ℕ → ℕ

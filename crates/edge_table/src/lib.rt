@@ -8,7 +8,7 @@ ghost use lib.ListN.{length};
 ghost use Rattle.definitions.specs.Lists.{at};
 ghost use Rattle.floats.specs.Order.{orderKey};
 ghost use Rattle.bins.specs.Answers.{indexOf};
-ghost use Rattle.edge_table.specs.Table.{tableOf, placeOf, edgePlace, endOf, spread, binHinted, hintsOf, hintsFor, outsideOf, edgeBin, tableBin, noTable, valueTableOf, valueHintsFor, enclosed, shown, holds, stepUp, climb, located, locatedBin, flagOf, pastEnd, nearHint, sureAt};
+ghost use Rattle.edge_table.specs.Table.{tableOf, placeOf, hintPlace, endOf, spread, binHinted, hintsOf, hintsFor, outsideOf, edgeBin, tableBin, noTable, valueTableOf, valueHintsFor, enclosed, shown, holds, stepUp, climb, located, locatedBin, flagOf, pastEnd, nearHint, sureAt};
 
 // Ends of the edges; a value's place of hints is scale times it plus offset.
 pub struct Table {
@@ -64,11 +64,11 @@ pub fn table_of(edges: BuiltEdges, list: &[f64], span: f64) -> Table
 
 // ---- hints
 
-// An edge's place: the first whose middle is not below it. With 2^52 in the offset the sum is rounded to a whole number, which the low bits then hold.
-fn edge_place(table: Table, edge: f64) -> usize
-    ensures { λ r. ⌜ (r ≡ edgePlace table edge) × (r < 4096) ⌝ }
+// A place of hints. With 2^52 in the offset the sum is rounded to a whole number, which the low bits then hold.
+fn hint_place(table: Table, value: f64) -> usize
+    ensures { λ r. ⌜ (r ≡ hintPlace table value) × (r < 4096) ⌝ }
 {
-    let x = (edge * table.scale + 0.5) + table.offset;
+    let x = value * table.scale + table.offset;
     (floats::to_bits(x) % 4096) as usize
 }
 
@@ -95,9 +95,9 @@ fn hint_bin(list: &[f64], table: Table, b: usize, hints: &mut [u8])
     requires { ⌜ b + 1 < length (now list) ⌝ }
     ensures { λ _. ⌜ now (hints .exit) ≡ binHinted table (now (list .entry)) b (now (hints .entry)) ⌝ }
 {
-    let p = edge_place(table, list[b]);
-    let q = edge_place(table, list[b + 1]);
-    let end = end_of(q, hints.len());
+    let p = hint_place(table, list[b]);
+    let q = hint_place(table, list[b + 1]);
+    let end = end_of(q + 1, hints.len());
     spread_hint(p, (b % 256) as u8, end, hints);
 }
 
@@ -269,9 +269,8 @@ fn past_end(inside: bool, table: Table, value: f64) -> usize
 pub fn place_of(inside: bool, table: Table, value: f64) -> usize
     ensures { λ r. ⌜ r ≡ placeOf inside table value ⌝ }
 {
-    let x = value * table.scale + table.offset;
-    let p = (floats::to_bits(x) % 4096) as usize;
-    p + (4096 * past_end(inside, table, value) + 8192 * ((value == 0.0) as usize))
+    hint_place(table, value)
+        + (4096 * past_end(inside, table, value) + 8192 * ((value == 0.0) as usize))
 }
 
 // h, or the bin beside it to which the value points.

@@ -1,6 +1,6 @@
 -- The loops over irregular edges, and each outcome of looking them over.
 use mathlib.Core.Path.{_≡_, refl, sym, _∙_, subst}
-use mathlib.Core.Bool.{Bool, true, false}
+use mathlib.Core.Bool.{Bool, true, false, _&&_}
 use mathlib.Core.List.{List, [], _∷_}
 use Prim.Native.Nat.{ℕ, suc, _+_, _-_, _<_, _≤_}
 use native.Mathlib.Numerals.{add-one}
@@ -32,29 +32,29 @@ module _ (es : List Float) (i : ℕ) (h : i < length es) (r : Bool) (q : r ≡ f
 pub finite-done : (es : List Float) (i : ℕ) → length es ≤ i → allFinite es ≡ allFinite (drop i es) → true ≡ allFinite es
 finite-done es i h inv = rw (inv, drop-of-length-le es h)
 
--- ---- increasing: what is left from i - 1 on decides
-module _ (es : List Float) (i : ℕ) (z : 1 ≤ i) (h : i < length es) (inv : increasing es ≡ increasing (drop (i - 1) es)) where
-  -- the two edges that the loop compares
-  split : drop (i - 1) es ≡ at es (i - 1) ∷ at es i ∷ drop (suc i) es
-  split =
+-- ---- increasing: r says whether the edges before i rise, and what is left from i - 1 on the rest
+and-assoc : (a b c : Bool) → (a && (b && c)) ≡ ((a && b) && c)
+and-assoc true b c = refl
+and-assoc false b c = refl
+
+rising-one : (r : Bool) (l : List Float) → length l ≤ 1 → r ≡ (r && increasing l)
+rising-one true [] h = refl
+rising-one true (x ∷ []) h = refl
+rising-one true (x ∷ y ∷ l) h = absurd (omega arith)
+rising-one false l h = refl
+
+module _ (es : List Float) (i : ℕ) (r : Bool) (z : 1 ≤ i) (inv : increasing es ≡ (r && increasing (drop (i - 1) es))) where
+  pub rising-again : i < length es → increasing es ≡ ((r && lt (at es (i - 1)) (at es i)) && increasing (drop (i + 1 - 1) es))
+  rising-again h =
+      let split : drop (i - 1) es ≡ at es (i - 1) ∷ at es i ∷ drop (suc i) es =
       let e : suc (i - 1) ≡ i = omega arith in
       drop-cons es (i - 1) nan (omega arith) ∙ rw (e, drop-cons es i nan h)
-
-  pub rising-again : lt (at es (i - 1)) (at es i) ≡ true → increasing es ≡ increasing (drop (i + 1 - 1) es)
-  rising-again t =
+      in
       let e : i + 1 - 1 ≡ i = omega arith in
-      inv ∙ rw (split, e, drop-cons es i nan h, t)
+      inv ∙ rw (split, e, drop-cons es i nan h) (and-assoc r (lt (at es (i - 1)) (at es i)) (increasing (at es i ∷ drop (suc i) es)))
 
-  pub rising-stop : lt (at es (i - 1)) (at es i) ≡ false → false ≡ increasing es
-  rising-stop t = rw (inv, split, t)
-
-rising-one : (l : List Float) → length l ≤ 1 → true ≡ increasing l
-rising-one [] h = refl
-rising-one (x ∷ []) h = refl
-rising-one (x ∷ y ∷ r) h = absurd (omega arith)
-
-pub rising-done : (es : List Float) (i : ℕ) → 1 ≤ i → length es ≤ i → increasing es ≡ increasing (drop (i - 1) es) → true ≡ increasing es
-rising-done es i z h inv = rising-one (drop (i - 1) es) (simp length-drop (omega arith)) ∙ sym inv
+  pub rising-done : length es ≤ i → r ≡ increasing es
+  rising-done h = rising-one r (drop (i - 1) es) (simp length-drop (omega arith)) ∙ sym inv
 
 -- ---- each outcome of `validate_bin_edges`
 abbrev Valid : List Float → Validated → Type 0

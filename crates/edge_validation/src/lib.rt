@@ -30,21 +30,19 @@ fn all_finite(edges: &[f64]) -> bool
     true
 }
 
-// Whether each edge is above the one before.
+// Whether each edge is above the one before. All are compared: a loop with no early end is done on several at once.
 fn is_increasing(edges: &[f64]) -> bool
     ensures { λ r. ⌜ r ≡ increasing (now (edges .entry)) ⌝ }
 {
+    let mut rises = true;
     let mut i = 1;
     while i < edges.len() {
         let left = edges[i - 1];
         let right = edges[i];
-        if left < right {
-            i += 1;
-        } else {
-            return false;
-        }
+        rises = rises & (left < right);
+        i += 1;
     }
-    true
+    rises
 }
 
 // The same of increasing edges: those between finite ones are finite.

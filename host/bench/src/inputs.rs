@@ -171,10 +171,16 @@ pub fn directed(table: &mut Table) {
     let (whole, numbers) = (Numbers::whole(4096, 5), Numbers::new(4096, 1));
     let sets = Sets::Points(whole.points(4096), None);
     let edges: Vec<f64> = (0..=25).map(|k| f64::from(k * k)).collect();
+    let many: Vec<f64> = (0..=256).map(|k| f64::from(5 * k / 2)).collect();
     let value: Vec<f64> = (0..=16).map(|k| f64::from(12 * k - 97)).collect();
     let (distances, value) = (Edges::Irregular(&edges), Edges::Irregular(&value));
     let kinds = [
         ("mean, irregular 25", distances, Kind::ComponentSumMean),
+        (
+            "mean, irregular 256",
+            Edges::Irregular(&many),
+            Kind::ComponentSumMean,
+        ),
         ("mean, regular 32", even(640.0, 32), Kind::ComponentSumMean),
         (
             "histogram, irregular 25, irregular values 16",

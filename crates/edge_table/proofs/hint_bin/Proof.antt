@@ -4,37 +4,41 @@ use Rattle.edge_table.proofs.hint_bin.Statement.{statement}
 use Rattle.edge_table.proofs.hint_bin.Tie as tie
 use Rattle.edge_table.proofs.hint_bin.Reads as reads
 use Rattle.edge_table.proofs.hint_bin.Lts as lts
-use Rattle.edge_table.proofs.edge_place.Reads as edge-place-reads
+use Rattle.edge_table.proofs.hint_place.Reads as hint-place-reads
 use Rattle.edge_table.proofs.end_of.Reads as end-of-reads
 use Rattle.edge_table.proofs.spread_hint.Reads as spread-hint-reads
 
 -- src/lib.rt:110:31
-mul-edge-place : tie.Need-mul-edge-place
-mul-edge-place c = search needs
+mul-hint-place : tie.Need-mul-hint-place
+mul-hint-place c = search needs
 
 -- src/lib.rt:110:31
-shared-slice-read-edge-place : tie.Need-shared-slice-read-edge-place
-shared-slice-read-edge-place c = search needs
+shared-slice-read-hint-place : tie.Need-shared-slice-read-hint-place
+shared-slice-read-hint-place c = search needs
 
 -- src/lib.rt:110:9
-edge-place-requires : tie.Need-edge-place-requires
-edge-place-requires c κs = search needs
+hint-place-requires : tie.Need-hint-place-requires
+hint-place-requires c κs = search needs
 
 -- src/lib.rt:111:36
-add-edge-place : tie.Need-add-edge-place
-add-edge-place c = search needs
+add-hint-place : tie.Need-add-hint-place
+add-hint-place c = search needs
 
 -- src/lib.rt:111:31
-mul-edge-place-2 : tie.Need-mul-edge-place-2
-mul-edge-place-2 c = search needs
+mul-hint-place-2 : tie.Need-mul-hint-place-2
+mul-hint-place-2 c = search needs
 
 -- src/lib.rt:111:31
-shared-slice-read-edge-place-2 : tie.Need-shared-slice-read-edge-place-2
-shared-slice-read-edge-place-2 c = search needs
+shared-slice-read-hint-place-2 : tie.Need-shared-slice-read-hint-place-2
+shared-slice-read-hint-place-2 c = search needs
 
 -- src/lib.rt:111:9
-edge-place-requires-2 : tie.Need-edge-place-requires-2
-edge-place-requires-2 c κs = search needs
+hint-place-requires-2 : tie.Need-hint-place-requires-2
+hint-place-requires-2 c κs = search needs
+
+-- src/lib.rt:112:9
+add-end-of : tie.Need-add-end-of
+add-end-of c = search needs
 
 -- src/lib.rt:112:9
 end-of-requires : tie.Need-end-of-requires
@@ -60,13 +64,14 @@ pub hint-bin-spec : {M : Type 1} → statement M
 hint-bin-spec =
     tie.close
     (tie.spec
-    mul-edge-place
-    shared-slice-read-edge-place
-    edge-place-requires
-    add-edge-place
-    mul-edge-place-2
-    shared-slice-read-edge-place-2
-    edge-place-requires-2
+    mul-hint-place
+    shared-slice-read-hint-place
+    hint-place-requires
+    add-hint-place
+    mul-hint-place-2
+    shared-slice-read-hint-place-2
+    hint-place-requires-2
+    add-end-of
     end-of-requires
     cast-spread-hint
     spread-hint-requires

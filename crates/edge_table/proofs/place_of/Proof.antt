@@ -8,11 +8,11 @@ use Rattle.edge_table.proofs.place_of.Tie as tie
 use Rattle.edge_table.proofs.place_of.Reads as reads
 use Rattle.edge_table.proofs.place_of.Lts as lts
 use Rattle.edge_table.proofs.past_end.Reads as past-end-reads
-use Rattle.floats.proofs.to_bits.Reads as to-bits-reads
+use Rattle.edge_table.proofs.hint_place.Reads as hint-place-reads
 
 -- src/lib.rt:264:14
-to-bits-requires : tie.Need-to-bits-requires
-to-bits-requires c κs = search needs
+hint-place-requires : tie.Need-hint-place-requires
+hint-place-requires c κs = search needs
 
 -- src/lib.rt:265:17
 past-end-requires : tie.Need-past-end-requires
@@ -28,15 +28,15 @@ cast-result c = search needs
 
 -- src/lib.rt:265:50
 mul-result-2 : tie.Need-mul-result-2
-mul-result-2 c = omega (arith, bit-le (Ieee.eq (c .before .before .before .before .args .value) (Ieee.ofBits Ieee.binary64 0)))
+mul-result-2 c = omega (arith, bit-le (Ieee.eq (c .before .before .args .value) (Ieee.ofBits Ieee.binary64 0)))
 
 -- src/lib.rt:265:10
 add-result : tie.Need-add-result
-add-result c = omega (arith, c .past-end .ensures .1, bit-le (Ieee.eq (c .before .before .before .before .args .value) (Ieee.ofBits Ieee.binary64 0)))
+add-result c = omega (arith, c .past-end .ensures .1, bit-le (Ieee.eq (c .before .before .args .value) (Ieee.ofBits Ieee.binary64 0)))
 
 -- src/lib.rt:265:5
 add-result-2 : tie.Need-add-result-2
-add-result-2 c = omega (arith, c .past-end .ensures .1, bit-le (Ieee.eq (c .before .before .before .before .args .value) (Ieee.ofBits Ieee.binary64 0)))
+add-result-2 c = omega (arith, c .past-end .ensures .1, bit-le (Ieee.eq (c .before .before .args .value) (Ieee.ofBits Ieee.binary64 0)))
 
 -- src/lib.rt:260:1
 returns : tie.Need-returns
@@ -46,7 +46,7 @@ pub place-of-spec : {M : Type 1} → statement M
 place-of-spec =
     tie.close
     (tie.spec
-    to-bits-requires
+    hint-place-requires
     past-end-requires
     mul-result
     cast-result

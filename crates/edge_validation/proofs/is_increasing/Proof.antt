@@ -1,18 +1,19 @@
 use mathlib.Core.Path.{_≡_}
+use mathlib.Core.Bool.{_&&_}
 use Prim.Native.Nat.{_≤_, _-_}
 use native.Mathlib.Omega.{arith}
 use lib.ListN.{length, drop}
 use borrow.Author.Needs.{needs}
 use Rattle.definitions.specs.Rules.{increasing}
-use Rattle.edge_validation.proofs.Validation.{rising-again, rising-stop, rising-done}
+use Rattle.edge_validation.proofs.Validation.{rising-again, rising-done}
 use Rattle.edge_validation.proofs.is_increasing.Statement.{statement}
 use Rattle.edge_validation.proofs.is_increasing.Tie as tie
 
 abbrev Inv-loop : tie.InvT-loop
-Inv-loop edges i₀ i = (1 ≤ i) × (increasing edges ≡ increasing (drop (i - 1) edges))
+Inv-loop edges rises₀ i₀ rises i = (1 ≤ i) × (increasing edges ≡ rises && increasing (drop (i - 1) edges))
 
 abbrev μ-loop : tie.MeasureT-loop
-μ-loop edges i₀ i = length edges - i
+μ-loop edges rises₀ i₀ rises i = length edges - i
 
 loop-holds : tie.Need-loop-holds Inv-loop μ-loop
 loop-holds c = search needs
@@ -42,10 +43,7 @@ loop-again : tie.Need-loop-again Inv-loop μ-loop
 loop-again c = (omega arith, search rising-again)
 
 returns : tie.Need-returns Inv-loop μ-loop
-returns c = search rising-stop
-
-returns-2 : tie.Need-returns-2 Inv-loop μ-loop
-returns-2 c = search rising-done
+returns c = search rising-done
 
 pub is-increasing-spec : {M : Type 1} → statement M
 is-increasing-spec =
@@ -62,5 +60,4 @@ is-increasing-spec =
     add-i
     loop-less
     loop-again
-    returns
-    returns-2)
+    returns)
