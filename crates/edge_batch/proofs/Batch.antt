@@ -22,7 +22,7 @@ use Rattle.reducer.specs.Consume as consume
 use Rattle.reducer.specs.Consume.{builtBins, builtFind, builtBin}
 use Rattle.reducer.proofs.Placewise.{below-again}
 use Rattle.edge_table.specs.declared.Table.{Table}
-use Rattle.edge_table.specs.Table.{endOf, placeOf, nearHint, bit, flagOf, pastEnd, enclosed, nonzero, shown, located, locatedBin, sureAt}
+use Rattle.edge_table.specs.Table.{endOf, hintPlace, placeOf, nearHint, bit, flagOf, pastEnd, enclosed, nonzero, shown, located, locatedBin, sureAt}
 use Rattle.edge_table.specs.Tabled.{Tabled}
 use Rattle.edge_table.proofs.Ways.{end-le}
 use Rattle.edge_table.proofs.Lookup.{outside, bin-low, bin-high, enclosed-bin, located-found}
@@ -158,7 +158,7 @@ module _ (es : List Float) (hints : List ℕ) (table : Table) where
 
       -- past an end, a zero, or tried
       sure-found : (inside : Bool) → sureAt es hints x (placeOf inside table x) < 8192 → sureAt es hints x (placeOf inside table x) ≡ numberOr (builtBin Irregular es x)
-      unfolding placeOf
+      unfolding placeOf hintPlace
       sure-found inside = go (pastEnd inside table x) (eq x (ofBits binary64 0)) refl refl
         where
           m : ℕ
