@@ -37,7 +37,7 @@ use Rattle.parallel_serial.specs.Drive as drive
 use Rattle.parallel_serial.specs.Drive.{zeroPack, addedScratch, builtEdges, builtReducer, runNumber, runOf}
 use Rattle.parallel_serial.proofs.Refusals.{run-number, Drivable, Accepted, accepted}
 use Rattle.parallel_serial.proofs.Built.{built-made, reducer-made}
-use Rattle.parallel_serial.proofs.Scratch.{lent-zeros, zero-at, added-merged, step-refused, step-done, run-refused, run-done}
+use Rattle.parallel_serial.proofs.Scratch.{lent-zeros, zero-at, added-merged, step-refused, step-done}
 use Rattle.unstructured_points.specs.declared.PointSet.{PointSet}
 use Rattle.unstructured_points.specs.Readings.{strideOf, pointsOf}
 use Rattle.unstructured_points.specs.Sets as sets
@@ -189,14 +189,12 @@ module _ (auto : Bool) (a b : UnstructuredPoints) (edges : Edges) (list : List F
         h ∙ ap (λ (n : ℕ). runNumber (overSets (setsFor auto a b)) (refusal (setRules (setsFor auto a b))) n (edgesOf edges list) (kindOf kind valueEdges) shape (length s)) (sym (no-pair-rules auto a b))
         ∙ run-number (setsFor auto a b) (opOf op) (edgesOf edges list) (kindOf kind valueEdges) shape (length s)
 
-    pub answer-refused : (x ≡ 0 → ⊥) → some x ≡ met (refusal (runRules this (length s)))
-    answer-refused n = run-refused this s x own-number n
+    -- o is the outcome's number
+    pub answer : (o : Option ℕ) → o ≡ met x → o ≡ met (refusal (runRules this (length s)))
+    answer o e = e ∙ ap met own-number
 
     pub stays : (x ≡ 0 → ⊥) → s ≡ step this s
     stays n = step-refused this s x own-number n
-
-    pub answer-done : x ≡ 0 → none ≡ met (refusal (runRules this (length s)))
-    answer-done z = run-done this s x own-number z
 
     pub done : x ≡ 0 → (q : List Float) → q ≡ merged this s → q ≡ step this s
     done z q e = step-done this s x own-number z q e
@@ -206,12 +204,8 @@ module _ (auto : Bool) (a b : UnstructuredPoints) (edges : Edges) (list : List F
     unfolding sets.setsNumber
     all = accepted (overSets (setsFor auto a b)) (refusal (setRules (setsFor auto a b))) 0 (edgesOf edges list) (kindOf kind valueEdges) shape (length s) (sym h ∙ z)
 
-    pub drivable : Drivable (edgesOf edges list) (kindOf kind valueEdges) shape (length s)
-    drivable = all .drivable
-
-    module _ (same : auto ≡ true → a ≡ b) where
-      pub held-first : Held a
-      held-first = held-sets auto a b same (all .limits) (all .own) .0
-
-      pub held-second : Held b
-      held-second = held-sets auto a b same (all .limits) (all .own) .1
+    -- what `drive` asks
+    pub drivable : (same : auto ≡ true → a ≡ b) → Held a × (Held b × ((auto ≡ true → a ≡ b) × Drivable (edgesOf edges list) (kindOf kind valueEdges) shape (length s)))
+    drivable same =
+        let held = held-sets auto a b same (all .limits) (all .own) in
+        (held .0, (held .1, (same, all .drivable)))

@@ -1329,71 +1329,13 @@ fn drive(
     );
 }
 
-fn run(
-    auto: bool,
-    a_positions: &[f64],
-    a_values: &[f64],
-    a_weights: &[f64],
-    a: PointSet,
-    b_positions: &[f64],
-    b_values: &[f64],
-    b_weights: &[f64],
-    b: PointSet,
-    edges: Edges,
-    list: &[f64],
-    kind: Kind,
-    value_edges: &[f64],
-    op: PairOperation,
-    shape: Shape,
-    pack: &mut [f64],
-) -> Outcome
-    requires { ⌜ (auto ≡ true → pointsOf a (now «a_positions») (now «a_values») (now «a_weights») ≡ pointsOf b (now «b_positions») (now «b_values») (now «b_weights»)) ⌝ }
-    ensures { λ r. ⌜ numberOf r ≡ met (refusal (runRules (setsRun (setsFor auto (pointsOf a (now («a_positions» .entry)) (now («a_values» .entry)) (now («a_weights» .entry)))
-        (pointsOf b (now («b_positions» .entry)) (now («b_values» .entry)) (now («b_weights» .entry))))
-        edges (now (list .entry)) kind (now («value_edges» .entry)) op shape) (length (now (pack .entry))))) ⌝ }
-    ensures { λ _. ⌜ now (pack .exit) ≡ step (setsRun (setsFor auto (pointsOf a (now («a_positions» .entry)) (now («a_values» .entry)) (now («a_weights» .entry)))
-        (pointsOf b (now («b_positions» .entry)) (now («b_values» .entry)) (now («b_weights» .entry))))
-        edges (now (list .entry)) kind (now («value_edges» .entry)) op shape) (now (pack .entry)) ⌝ }
+fn outcome_of(number: u32) -> Outcome
+    ensures { λ r. ⌜ numberOf r ≡ met number ⌝ }
 {
-    let number = unstructured_points::run_refusal(
-        auto,
-        a_positions,
-        a_values,
-        a_weights,
-        a,
-        b_positions,
-        b_values,
-        b_weights,
-        b,
-        edges,
-        list,
-        kind,
-        value_edges,
-        shape,
-        pack.len(),
-    );
-    if number != 0 {
-        return Outcome::Refused(number);
+    if number == 0 {
+        return Outcome::Done;
     }
-    drive(
-        auto,
-        a_positions,
-        a_values,
-        a_weights,
-        a,
-        b_positions,
-        b_values,
-        b_weights,
-        b,
-        edges,
-        list,
-        kind,
-        value_edges,
-        op,
-        shape,
-        pack,
-    );
-    Outcome::Done
+    Outcome::Refused(number)
 }
 
 // Each pair of a point with a later one.
@@ -1415,7 +1357,7 @@ pub fn points_auto(
     ensures { λ _. ⌜ now (pack .exit) ≡ step (autoRun (pointsOf set (now (positions .entry)) (now (values .entry)) (now (weights .entry)))
         edges (now (list .entry)) kind (now («value_edges» .entry)) op shape) (now (pack .entry)) ⌝ }
 {
-    run(
+    let number = unstructured_points::run_refusal(
         true,
         positions,
         values,
@@ -1429,10 +1371,30 @@ pub fn points_auto(
         list,
         kind,
         value_edges,
-        op,
         shape,
-        pack,
-    )
+        pack.len(),
+    );
+    if number == 0 {
+        drive(
+            true,
+            positions,
+            values,
+            weights,
+            set,
+            positions,
+            values,
+            weights,
+            set,
+            edges,
+            list,
+            kind,
+            value_edges,
+            op,
+            shape,
+            pack,
+        );
+    }
+    outcome_of(number)
 }
 
 // Each point of a with each point of b.
@@ -1460,7 +1422,7 @@ pub fn points_cross(
         (pointsOf b (now («b_positions» .entry)) (now («b_values» .entry)) (now («b_weights» .entry)))
         edges (now (list .entry)) kind (now («value_edges» .entry)) op shape) (now (pack .entry)) ⌝ }
 {
-    run(
+    let number = unstructured_points::run_refusal(
         false,
         a_positions,
         a_values,
@@ -1474,8 +1436,28 @@ pub fn points_cross(
         list,
         kind,
         value_edges,
-        op,
         shape,
-        pack,
-    )
+        pack.len(),
+    );
+    if number == 0 {
+        drive(
+            false,
+            a_positions,
+            a_values,
+            a_weights,
+            a,
+            b_positions,
+            b_values,
+            b_weights,
+            b,
+            edges,
+            list,
+            kind,
+            value_edges,
+            op,
+            shape,
+            pack,
+        );
+    }
+    outcome_of(number)
 }
