@@ -1,12 +1,12 @@
-//! Times the three in turn, compares what they leave, and prints the least times and their ratios.
+//! Times the four in turn, compares what they leave, and prints the least times and their ratios.
 use crate::case::{Case, library};
 use crate::original::original;
-use crate::tight::tight;
+use crate::tight::{tight, unchecked};
 use std::time::Instant;
 
 type Way = fn(&Case, &mut [f64]);
 
-const WAYS: [Way; 3] = [original, tight, library];
+const WAYS: [Way; 4] = [original, tight, unchecked, library];
 
 /// Pairs that are timed together, so that a small call is not timed alone; and pairs of a repetition: a small
 /// call is timed often, since the least of few times is not the least of a busy machine.
@@ -31,8 +31,10 @@ impl<'a> Table<'a> {
     /// A part's title and the names of its columns.
     pub fn head(&self, title: &str) {
         println!("\n{title}");
-        println!("| case | original | tight | library | of original | of tight | ns a pair |");
-        println!("|---|---|---|---|---|---|---|");
+        println!(
+            "| case | original | tight | unchecked | library | of original | of tight | of unchecked | ns a pair |"
+        );
+        println!("|---|---|---|---|---|---|---|---|---|");
     }
 
     /// One call, with the name under which it is printed; times in microseconds.
@@ -42,7 +44,7 @@ impl<'a> Table<'a> {
         }
         let calls = (TOGETHER / case.pairs()).clamp(1, 50);
         let times = (REPETITION / (case.pairs() * calls)).clamp(1, 500);
-        let mut least = [f64::INFINITY; 3];
+        let mut least = [f64::INFINITY; 4];
         for _ in 0..self.repetitions * times {
             let mut left = Vec::new();
             for (way, least) in WAYS.iter().zip(&mut least) {
@@ -59,11 +61,11 @@ impl<'a> Table<'a> {
                 println!("{name}: outputs differ");
             }
         }
-        let [original, tight, library] = least.map(|t| t * 1e6);
-        let (whole, tightest) = (library / original, library / tight);
+        let [original, tight, unchecked, library] = least.map(|t| t * 1e6);
+        let [whole, tightest, bare] = [original, tight, unchecked].map(|t| library / t);
         let pair = library * 1e3 / case.pairs() as f64;
         println!(
-            "| {name} | {original:.2} | {tight:.2} | {library:.2} | {whole:.2} | {tightest:.2} | {pair:.2} |"
+            "| {name} | {original:.2} | {tight:.2} | {unchecked:.2} | {library:.2} | {whole:.2} | {tightest:.2} | {bare:.2} | {pair:.2} |"
         );
     }
 }

@@ -1,5 +1,6 @@
-//! The tightest safe Rust that gives the same bits: no check of its arguments, multiplied pairs only.
+//! The tightest safe Rust that gives the same bits, for multiplied pairs only: whole calls, and without the checks.
 mod blocks;
+mod checks;
 mod lookup;
 mod points;
 mod sum;
@@ -32,8 +33,16 @@ fn by_distance<S: Sum>(case: &Case, sum: S, pack: &mut [f64]) {
     }
 }
 
-/// The run.
+/// A whole call: nothing is done where it is refused.
 pub fn tight(case: &Case, pack: &mut [f64]) {
+    if checks::accepted(case, pack.len()) {
+        unchecked(case, pack);
+    }
+}
+
+/// The run without a check of its arguments; one code for both, since two differ by their places in memory.
+#[inline(never)]
+pub fn unchecked(case: &Case, pack: &mut [f64]) {
     let states = case.run.shape.states;
     match case.run.kind {
         Kind::ComponentSumMean => by_distance(case, Means::new(states), pack),
