@@ -2,3 +2,4 @@ pub mod Rules
 pub mod Loops
 pub mod Runs
 pub mod Batches
+pub mod Examples
