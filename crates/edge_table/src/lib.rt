@@ -90,7 +90,7 @@ fn spread_hint(p: usize, b: u8, end: usize, hints: &mut [u8])
     }
 }
 
-// Bin b at the places from its lower edge's up to its upper edge's: the bin of a place's middle.
+// Bin b at the places from its lower edge's to its upper edge's, which the next bin then takes: an edge's place has the bin above it.
 fn hint_bin(list: &[f64], table: Table, b: usize, hints: &mut [u8])
     requires { ⌜ b + 1 < length (now list) ⌝ }
     ensures { λ _. ⌜ now (hints .exit) ≡ binHinted table (now (list .entry)) b (now (hints .entry)) ⌝ }
