@@ -2,13 +2,13 @@
 use mathlib.Core.Path.{_≡_, refl, sym, ap, _∙_}
 use mathlib.Core.Bool.{Bool, true, false, cond}
 use mathlib.Core.List.{List, [], _∷_, _++_, map}
-use Prim.Native.Nat.{ℕ, zero, suc, _+_, _<_, _≤_}
-use native.Mathlib.Nat.{not-suc-le-zero, le-of-suc-le-suc}
+use Prim.Native.Nat.{ℕ, zero, suc, _+_, _-_, _<_, _≤_}
+use native.Mathlib.Nat.{add-zero, le-refl, not-suc-le-zero, le-of-suc-le-suc}
 use native.Mathlib.Omega.{arith}
 use lib.Dec.{leb, eqb}
-use lib.ListN.{length, take, drop, replicate, length-replicate}
-use lib.Seq.{length-take-le, take-take}
-use lib.Ieee.{Float, binary64, add}
+use lib.ListN.{length, set, take, drop, replicate, length-replicate}
+use lib.Seq.{length-take-le, take-take, getD-set-other}
+use lib.Ieee.{Float, nan, binary64, add}
 use borrow.Author.Tests.{le-leb, lt-leb, eq-eqb, ne-eqb}
 use Rattle.definitions.specs.Lists.{at, range, upto, overwritten}
 use Rattle.definitions.specs.Floats.{zeroF}
@@ -16,11 +16,12 @@ use Rattle.definitions.specs.Run.{Run, used, scratch, merged}
 use Rattle.definitions.specs.State.{mergePacks}
 use Rattle.definitions.specs.Rules as rules
 use Rattle.definitions.specs.Rules.{refusal, runRules, step, met}
+use Rattle.laws.proofs.Places.{bump}
 use Rattle.laws.proofs.Refusals.{none-met, number-met}
 use Rattle.state.specs.declared.Outcome.the-variants.{Done, Refused}
 use Rattle.state.specs.Readings.{numberOf}
-use Rattle.state.proofs.Packs.{merge-done}
-use Rattle.parallel_serial.specs.Drive.{zeroPack, addedScratch}
+use Rattle.state.proofs.Packs.{merge-turn, merge-done}
+use Rattle.parallel_serial.specs.Drive.{zeroPack, summed, addedScratch}
 
 -- a small scratch holds the same zeros as a large one
 pub part-taken : (n m : ℕ) (z : List Float) → n ≤ m → z ≡ take m zeroPack → take n z ≡ take n zeroPack
@@ -50,7 +51,53 @@ zero-at (suc n) zero h = refl
 zero-at (suc n) (suc p) h = zero-at n p (le-of-suc-le-suc h)
 
 -- ---- its addition to the caller's pack
+join : (z : List Float) (i m n : ℕ) (s : List Float) → summed z (i + m) n (summed z i m s) ≡ summed z i (m + n) s
+unfolding summed
+join z i zero n s =
+    let a : n ≡ 0 + n = omega arith in
+    ap (λ (k : ℕ). summed z k n s) (add-zero i) ∙ ap (λ (k : ℕ). summed z i k s) a
+join z i (suc m) n s =
+    let a : i + suc m ≡ i + 1 + m = omega arith in
+    let b : suc (m + n) ≡ suc m + n = omega arith in
+    ap (λ (k : ℕ). summed z k n (summed z i (suc m) s)) a ∙ join z (i + 1) m n (bump i (at z i) s) ∙ ap (λ (k : ℕ). summed z i k s) b
+
+-- four parts of one width
+pub four-sums : (w : ℕ) (z : List Float) (i : ℕ) (s p q r t : List Float) → p ≡ summed z i w s → q ≡ summed z (i + w) w p → r ≡ summed z (i + (w + w)) w q → t ≡ summed z (i + (w + w + w)) w r
+    → t ≡ summed z i (w + w + w + w) s
+four-sums w z i s p q r t a b c d =
+    let e = b ∙ ap (summed z (i + w) w) a ∙ join z i w w s in
+    let f = c ∙ ap (summed z (i + (w + w)) w) e ∙ join z i (w + w) w s in
+    d ∙ ap (summed z (i + (w + w + w)) w) f ∙ join z i (w + w + w) w s
+
+module _ (z : List Float) (i : ℕ) where
+  pub two-sums : (s : List Float) (x y : Float) → x ≡ add binary64 (at s i) (at z i) → y ≡ add binary64 (at s (i + 1)) (at z (i + 1)) → set (set s i x) (i + 1) y ≡ summed z i 2 s
+  unfolding summed
+  two-sums s x y e f =
+      ap (λ (a : Float). set (set s i a) (i + 1) y) e
+      ∙ ap (set (bump i (at z i) s) (i + 1)) (f ∙ ap (λ (a : Float). add binary64 a (at z (i + 1))) (sym (getD-set-other s i (i + 1) (add binary64 (at s i) (at z i)) nan (omega arith))))
+
+  pub sums-up-to : (w : ℕ) (s q : List Float) → q ≡ summed z i w s → q ≡ summed z i (i + w - i) s
+  sums-up-to w s q e =
+      let a : w ≡ i + w - i = omega arith in
+      e ∙ ap (λ (k : ℕ). summed z i k s) a
+
+  pub one-sum : (s : List Float) (x : Float) → x ≡ add binary64 (at s i) (at z i) → set s i x ≡ summed z i (i + 1 - i) s
+  unfolding summed
+  one-sum s x e = sums-up-to 1 s (set s i x) (ap (set s i) e)
+
 module _ (s z : List Float) where
+  pub sums-merged : (i r : ℕ) (p q : List Float) → i < r → r ≤ length z → length z ≤ length s → p ≡ mergePacks i s z → q ≡ summed z i (r - i) p → q ≡ mergePacks r s z
+  unfolding summed
+  sums-merged i r p q h k l e f =
+      let a : i + (r - i) ≡ r = omega arith in
+      f ∙ go i (r - i) p (omega arith) e ∙ ap (λ (k : ℕ). mergePacks k s z) a
+    where
+      go : (i n : ℕ) (p : List Float) → i + n ≤ length s → p ≡ mergePacks i s z → summed z i n p ≡ mergePacks (i + n) s z
+      go i zero p l e = e ∙ ap (λ (k : ℕ). mergePacks k s z) (sym (add-zero i))
+      go i (suc n) p l e =
+          let a : i + 1 + n ≡ i + suc n = omega arith in
+          go (i + 1) n (bump i (at z i) p) (omega arith) (merge-turn s i (length s) p z (omega arith) (le-refl (length s)) e) ∙ ap (λ (k : ℕ). mergePacks k s z) a
+
   pub added-done : (i : ℕ) (q : List Float) → length z ≤ length s → i ≤ length z → length z ≤ i → q ≡ mergePacks i s z → q ≡ addedScratch s z
   unfolding addedScratch
   added-done i q h a b e = merge-done s i (length z) q z a b e ∙ (rw (le-leb (length z) (length s) h))

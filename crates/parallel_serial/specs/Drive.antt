@@ -1,10 +1,11 @@
 -- What the runs share: their refusal by numbers, what is built of edges and kinds, and the scratch pack.
 use mathlib.Core.List.{List, [], _∷_}
 use mathlib.Core.Bool.{Bool, false, not, cond, _&&_, _||_}
-use Prim.Native.Nat.{ℕ, _*_}
+use Prim.Native.Nat.{ℕ, zero, suc, _+_, _*_}
 use lib.Dec.{leb, ltb, eqb}
 use lib.ListN.{length, replicate}
 use lib.Ieee.{Float}
+use Rattle.definitions.specs.Lists.{at}
 use Rattle.definitions.specs.Floats.{zeroF}
 use Rattle.definitions.specs.Bins as Bins
 use Rattle.definitions.specs.Bins.{regular, bins}
@@ -13,6 +14,7 @@ use Rattle.definitions.specs.Reducer.{stateKind, kindSize}
 use Rattle.definitions.specs.Run.{Sets, Run}
 use Rattle.definitions.specs.State.{mergePacks}
 use Rattle.definitions.specs.Rules.{Rule, rule, refusal, ifAccepted, overPack, edgeRules, edgesCallRules, kindRules}
+use Rattle.laws.proofs.Places.{bump}
 use Rattle.laws.proofs.Refusals.{orElse}
 use Rattle.bins.specs.Answers.{regularOf}
 use Rattle.reducer.specs.declared.Edges.{Edges}
@@ -28,6 +30,11 @@ use Rattle.parallel_serial.specs.declared.Shape.{Shape}
 -- a pack of 4,096 zeros; shut, so that no goal writes it out
 unfoldable pub zeroPack : List Float
 zeroPack = replicate 4096 (zeroF false)
+
+-- n numbers of scratch, from place i on, added to the pack's in turn
+unfoldable pub summed : List Float → ℕ → ℕ → List Float → List Float
+summed scratch i zero pack = pack
+summed scratch i (suc n) pack = summed scratch (i + 1) n (bump i (at scratch i) pack)
 
 -- scratch is added to the front of the caller's pack, caller's number first; nothing where it is longer
 unfoldable pub addedScratch : List Float → List Float → List Float

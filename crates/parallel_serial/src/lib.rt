@@ -6,8 +6,11 @@ use reducer::Edges;
 use reducer::Kind;
 use reducer::Reducer;
 ghost use mathlib.Core.Path.{_≡_};
-ghost use lib.ListN.{take};
-ghost use Rattle.parallel_serial.specs.Drive.{zeroPack, addedScratch, builtEdges, builtReducer};
+ghost use Prim.Native.Nat.{_+_, _-_, _<_, _≤_};
+ghost use lib.ListN.{length, take};
+ghost use lib.Ieee.{binary64, add};
+ghost use Rattle.definitions.specs.Lists.{at};
+ghost use Rattle.parallel_serial.specs.Drive.{zeroPack, summed, addedScratch, builtEdges, builtReducer};
 
 // The pack's shape as the caller states it, and the team.
 pub struct Shape {
@@ -62,6 +65,63 @@ pub fn zeros_64() -> [f64; 64]
     [0.0; 64]
 }
 
+fn sum_at(scratch: &[f64], pack: &[f64], i: usize) -> f64
+    requires { ⌜ (i < length (now scratch)) × (i < length (now pack)) ⌝ }
+    ensures { λ r. ⌜ r ≡ add binary64 (at (now (pack .entry)) i) (at (now (scratch .entry)) i) ⌝ }
+{
+    pack[i] + scratch[i]
+}
+
+// Two numbers of scratch, from i on, are added to the pack's. Both sums come first, so that they are one vector addition.
+fn add_two(scratch: &[f64], pack: &mut [f64], i: usize)
+    requires { ⌜ (i + 2 ≤ length (now scratch)) × (length (now scratch) ≤ length (now pack)) ⌝ }
+    ensures { λ _. ⌜ now (pack .exit) ≡ summed (now (scratch .entry)) i 2 (now (pack .entry)) ⌝ }
+{
+    let first = sum_at(scratch, &*pack, i);
+    let second = sum_at(scratch, &*pack, i + 1);
+    pack[i] = first;
+    pack[i + 1] = second;
+}
+
+fn add_eight(scratch: &[f64], pack: &mut [f64], i: usize)
+    requires { ⌜ (i + 8 ≤ length (now scratch)) × (length (now scratch) ≤ length (now pack)) ⌝ }
+    ensures { λ _. ⌜ now (pack .exit) ≡ summed (now (scratch .entry)) i 8 (now (pack .entry)) ⌝ }
+{
+    add_two(scratch, &mut *pack, i);
+    add_two(scratch, &mut *pack, i + 2);
+    add_two(scratch, &mut *pack, i + 4);
+    add_two(scratch, &mut *pack, i + 6);
+}
+
+// A long block without a loop: in a short loop each load is guessed to wait for a sum just stored, which costs more than the additions.
+fn add_block(scratch: &[f64], pack: &mut [f64], i: usize)
+    requires { ⌜ (i + 32 ≤ length (now scratch)) × (length (now scratch) ≤ length (now pack)) ⌝ }
+    ensures { λ _. ⌜ now (pack .exit) ≡ summed (now (scratch .entry)) i 32 (now (pack .entry)) ⌝ }
+{
+    add_eight(scratch, &mut *pack, i);
+    add_eight(scratch, &mut *pack, i + 8);
+    add_eight(scratch, &mut *pack, i + 16);
+    add_eight(scratch, &mut *pack, i + 24);
+}
+
+// As many numbers as a block has, or fewer at the end; the place of the next one.
+fn add_next(scratch: &[f64], pack: &mut [f64], i: usize) -> usize
+    requires { ⌜ (i < length (now scratch)) × (length (now scratch) ≤ length (now pack)) ⌝ }
+    ensures { λ r. ⌜ (i < r) × (r ≤ length (now (scratch .entry))) × (now (pack .exit) ≡ summed (now (scratch .entry)) i (r - i) (now (pack .entry))) ⌝ }
+{
+    let left = scratch.len() - i;
+    if left >= 32 {
+        add_block(scratch, pack, i);
+        return i + 32;
+    }
+    if left >= 8 {
+        add_eight(scratch, pack, i);
+        return i + 8;
+    }
+    pack[i] = sum_at(scratch, &*pack, i);
+    i + 1
+}
+
 // Scratch is added to the front of the caller's pack, caller's number first; nothing where it is longer.
 pub fn add_scratch(scratch: &[f64], pack: &mut [f64])
     ensures { λ _. ⌜ now (pack .exit) ≡ addedScratch (now (pack .entry)) (now (scratch .entry)) ⌝ }
@@ -69,8 +129,7 @@ pub fn add_scratch(scratch: &[f64], pack: &mut [f64])
     if scratch.len() <= pack.len() {
         let mut i = 0;
         while i < scratch.len() {
-            pack[i] = pack[i] + scratch[i];
-            i += 1;
+            i = add_next(scratch, &mut *pack, i);
         }
     }
 }
