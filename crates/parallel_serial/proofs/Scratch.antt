@@ -1,5 +1,6 @@
 -- Scratch: the part of the zeros that is lent, its addition to the caller's pack, and what a run answers and leaves.
 use mathlib.Core.Path.{_≡_, refl, sym, ap, _∙_}
+use mathlib.Core.Option.{Option}
 use mathlib.Core.Bool.{Bool, true, false, cond}
 use mathlib.Core.List.{List, [], _∷_, _++_, map}
 use Prim.Native.Nat.{ℕ, zero, suc, _+_, _-_, _<_, _≤_}
@@ -17,9 +18,6 @@ use Rattle.definitions.specs.State.{mergePacks}
 use Rattle.definitions.specs.Rules as rules
 use Rattle.definitions.specs.Rules.{refusal, runRules, step, met}
 use Rattle.laws.proofs.Places.{bump}
-use Rattle.laws.proofs.Refusals.{none-met, number-met}
-use Rattle.state.specs.declared.Outcome.the-variants.{Done, Refused}
-use Rattle.state.specs.Readings.{numberOf}
 use Rattle.state.proofs.Packs.{merge-turn, merge-done}
 use Rattle.parallel_serial.specs.Drive.{zeroPack, summed, addedScratch}
 
@@ -119,11 +117,9 @@ added-merged r s z e h same =
 
 -- ---- what a run answers and leaves; x is what its refusal function answered
 module _ (r : Run) (s : List Float) (x : ℕ) (h : x ≡ refusal (runRules r (length s))) where
-  pub run-refused : (x ≡ 0 → ⊥) → numberOf (Refused x) ≡ met (refusal (runRules r (length s)))
-  run-refused z = number-met (runRules r (length s)) x h z
-
-  pub run-done : x ≡ 0 → numberOf Done ≡ met (refusal (runRules r (length s)))
-  run-done z = none-met (runRules r (length s)) x h z
+  -- o is the outcome's number
+  pub run-answer : (o : Option ℕ) → o ≡ met x → o ≡ met (refusal (runRules r (length s)))
+  run-answer o e = e ∙ ap met h
 
   pub step-refused : (x ≡ 0 → ⊥) → s ≡ step r s
   unfolding rules.step rules.accepted

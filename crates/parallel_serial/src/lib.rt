@@ -5,11 +5,14 @@ use reducer::BuiltEdges;
 use reducer::Edges;
 use reducer::Kind;
 use reducer::Reducer;
+use state::Outcome;
 ghost use mathlib.Core.Path.{_≡_};
 ghost use Prim.Native.Nat.{_+_, _-_, _<_, _≤_};
 ghost use lib.ListN.{length, take};
 ghost use lib.Ieee.{binary64, add};
 ghost use Rattle.definitions.specs.Lists.{at};
+ghost use Rattle.definitions.specs.Rules.{met};
+ghost use Rattle.state.specs.Readings.{numberOf};
 ghost use Rattle.parallel_serial.specs.Drive.{zeroPack, summed, addedScratch, builtEdges, builtReducer};
 
 // The pack's shape as the caller states it, and the team.
@@ -132,4 +135,16 @@ pub fn add_scratch(scratch: &[f64], pack: &mut [f64])
             i = add_next(scratch, &mut *pack, i);
         }
     }
+}
+
+// ---- what a run answers
+
+// The number of its refusal, 0 for none, as an outcome.
+pub fn outcome_of(number: u32) -> Outcome
+    ensures { λ r. ⌜ numberOf r ≡ met number ⌝ }
+{
+    if number == 0 {
+        return Outcome::Done;
+    }
+    Outcome::Refused(number)
 }

@@ -1,7 +1,7 @@
 -- A run: what follows of the number that it answers, and that the pack of an accepted one is merged. Assumes nothing.
 use mathlib.Core.Path.{_≡_, refl, sym, ap, subst, _∙_}
 use mathlib.Core.Bool.{Bool, true, false, cond}
-use mathlib.Core.Option.{none, some}
+use mathlib.Core.Option.{Option}
 use mathlib.Core.List.{List, [], _++_}
 use Prim.Native.Nat.{ℕ, _*_, _≤_}
 use native.Mathlib.Omega.{arith}
@@ -38,7 +38,7 @@ use Rattle.parallel_serial.specs.Drive as drive
 use Rattle.parallel_serial.specs.Drive.{zeroPack, addedScratch, builtEdges, builtReducer}
 use Rattle.parallel_serial.proofs.Refusals.{run-number, Drivable, Accepted, accepted}
 use Rattle.parallel_serial.proofs.Built.{built-made, reducer-made}
-use Rattle.parallel_serial.proofs.Scratch.{lent-length, lent-zeros, added-merged, step-refused, step-done, run-refused, run-done}
+use Rattle.parallel_serial.proofs.Scratch.{lent-length, lent-zeros, added-merged, run-answer, step-refused, step-done}
 use Rattle.idx_3d_offset.specs.Offsets.{autoSeq}
 use Rattle.idx_3d_offset.proofs.Sequence.{cross-all, auto-fold}
 use Rattle.spatial.specs.declared.Block.{Block}
@@ -63,14 +63,11 @@ module _ (sets : run.Sets) (edges : Edges) (list : List Float) (kind : Kind) (va
   unfolding refusals.setsNumber setsRun
   own-number = h ∙ run-number sets (opOf op) (edgesOf edges list) (kindOf kind valueEdges) shape (length s)
 
+  pub answer : (o : Option ℕ) → o ≡ met x → o ≡ met (refusal (runRules this (length s)))
+  answer = run-answer this s x own-number
+
   pub stays : (x ≡ 0 → ⊥) → s ≡ step this s
   stays n = step-refused this s x own-number n
-
-  pub answer-refused : (x ≡ 0 → ⊥) → some x ≡ met (refusal (runRules this (length s)))
-  answer-refused n = run-refused this s x own-number n
-
-  pub answer-done : x ≡ 0 → none ≡ met (refusal (runRules this (length s)))
-  answer-done z = run-done this s x own-number z
 
   pub done : x ≡ 0 → (q : List Float) → q ≡ merged this s → q ≡ step this s
   done z q e = step-done this s x own-number z q e

@@ -1401,31 +1401,30 @@ fn run(
         shape,
         pack.len(),
     );
-    if number != 0 {
-        return Outcome::Refused(number);
+    if number == 0 {
+        drive(
+            auto,
+            a0,
+            a1,
+            a2,
+            aw,
+            a,
+            b0,
+            b1,
+            b2,
+            bw,
+            b,
+            width,
+            edges,
+            list,
+            kind,
+            value_edges,
+            op,
+            shape,
+            pack,
+        );
     }
-    drive(
-        auto,
-        a0,
-        a1,
-        a2,
-        aw,
-        a,
-        b0,
-        b1,
-        b2,
-        bw,
-        b,
-        width,
-        edges,
-        list,
-        kind,
-        value_edges,
-        op,
-        shape,
-        pack,
-    );
-    Outcome::Done
+    parallel_serial::outcome_of(number)
 }
 
 // The pairs of a block's cells: the offsets after (0, 0, 0).

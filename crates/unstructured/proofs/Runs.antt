@@ -37,7 +37,7 @@ use Rattle.parallel_serial.specs.Drive as drive
 use Rattle.parallel_serial.specs.Drive.{zeroPack, addedScratch, builtEdges, builtReducer, runNumber, runOf}
 use Rattle.parallel_serial.proofs.Refusals.{run-number, Drivable, Accepted, accepted}
 use Rattle.parallel_serial.proofs.Built.{built-made, reducer-made}
-use Rattle.parallel_serial.proofs.Scratch.{lent-zeros, zero-at, added-merged, step-refused, step-done}
+use Rattle.parallel_serial.proofs.Scratch.{lent-zeros, zero-at, added-merged, run-answer, step-refused, step-done}
 use Rattle.unstructured_points.specs.declared.PointSet.{PointSet}
 use Rattle.unstructured_points.specs.Readings.{strideOf, pointsOf}
 use Rattle.unstructured_points.specs.Sets as sets
@@ -189,9 +189,8 @@ module _ (auto : Bool) (a b : UnstructuredPoints) (edges : Edges) (list : List F
         h ∙ ap (λ (n : ℕ). runNumber (overSets (setsFor auto a b)) (refusal (setRules (setsFor auto a b))) n (edgesOf edges list) (kindOf kind valueEdges) shape (length s)) (sym (no-pair-rules auto a b))
         ∙ run-number (setsFor auto a b) (opOf op) (edgesOf edges list) (kindOf kind valueEdges) shape (length s)
 
-    -- o is the outcome's number
     pub answer : (o : Option ℕ) → o ≡ met x → o ≡ met (refusal (runRules this (length s)))
-    answer o e = e ∙ ap met own-number
+    answer = run-answer this s x own-number
 
     pub stays : (x ≡ 0 → ⊥) → s ≡ step this s
     stays n = step-refused this s x own-number n

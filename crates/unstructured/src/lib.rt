@@ -988,7 +988,7 @@ fn fill(
 
 // ---- runs
 
-// Fills scratch and adds it to the caller's pack.
+// Fills scratch and adds it to the caller's pack. Lending the slices on (&*), here and in drive, lets the compiler pass them by value.
 fn run_in(
     auto: bool,
     setup: Setup,
@@ -1018,16 +1018,16 @@ fn run_in(
     fill(
         auto,
         setup,
-        list,
-        value_edges,
-        a_positions,
-        a_values,
-        a_weights,
+        &*list,
+        &*value_edges,
+        &*a_positions,
+        &*a_values,
+        &*a_weights,
         a_stride,
         a_n,
-        b_positions,
-        b_values,
-        b_weights,
+        &*b_positions,
+        &*b_values,
+        &*b_weights,
         b_stride,
         b_n,
         scratch,
@@ -1312,30 +1312,21 @@ fn drive(
     run_sized(
         auto,
         setup,
-        list,
-        value_edges,
-        a_positions,
-        a_values,
-        a_weights,
+        &*list,
+        &*value_edges,
+        &*a_positions,
+        &*a_values,
+        &*a_weights,
         a_stride,
         a.n_points,
-        b_positions,
-        b_values,
-        b_weights,
+        &*b_positions,
+        &*b_values,
+        &*b_weights,
         b_stride,
         b.n_points,
         used,
         pack,
     );
-}
-
-fn outcome_of(number: u32) -> Outcome
-    ensures { λ r. ⌜ numberOf r ≡ met number ⌝ }
-{
-    if number == 0 {
-        return Outcome::Done;
-    }
-    Outcome::Refused(number)
 }
 
 // Each pair of a point with a later one.
@@ -1394,7 +1385,7 @@ pub fn points_auto(
             pack,
         );
     }
-    outcome_of(number)
+    parallel_serial::outcome_of(number)
 }
 
 // Each point of a with each point of b.
@@ -1459,5 +1450,5 @@ pub fn points_cross(
             pack,
         );
     }
-    outcome_of(number)
+    parallel_serial::outcome_of(number)
 }

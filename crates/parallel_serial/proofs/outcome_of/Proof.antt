@@ -1,8 +1,8 @@
 use borrow.Author.Tests.{eq-eqb, ne-eqb}
-use Rattle.unstructured.proofs.outcome_of.Statement.{statement}
-use Rattle.unstructured.proofs.outcome_of.Tie as tie
-use Rattle.unstructured.proofs.outcome_of.Reads as reads
-use Rattle.unstructured.proofs.outcome_of.Lts as lts
+use Rattle.parallel_serial.proofs.outcome_of.Statement.{statement}
+use Rattle.parallel_serial.proofs.outcome_of.Tie as tie
+use Rattle.parallel_serial.proofs.outcome_of.Reads as reads
+use Rattle.parallel_serial.proofs.outcome_of.Lts as lts
 
 -- src/lib.rt:1336:9
 returns : tie.Need-returns
