@@ -1035,150 +1035,6 @@ fn run_in(
     parallel_serial::add_scratch(scratch, pack);
 }
 
-fn run_64(
-    auto: bool,
-    setup: Setup,
-    list: &[f64],
-    value_edges: &[f64],
-    a_positions: &[f64],
-    a_values: &[f64],
-    a_weights: &[f64],
-    a_stride: usize,
-    a_n: usize,
-    b_positions: &[f64],
-    b_values: &[f64],
-    b_weights: &[f64],
-    b_stride: usize,
-    b_n: usize,
-    used: usize,
-    pack: &mut [f64],
-)
-    requires { ⌜ used ≤ 64 ⌝ }
-    requires { ⌜ UsableRun setup (now list) (now «value_edges») ⌝ }
-    requires { ⌜ Readable (now «a_positions») (now «a_values») (now «a_weights») «a_n» «a_stride» ⌝ }
-    requires { ⌜ Readable (now «b_positions») (now «b_values») (now «b_weights») «b_n» «b_stride» ⌝ }
-    requires { ⌜ (auto ≡ true → (pointIn (now «a_positions») (now «a_values») (now «a_weights») «a_stride» ≡ pointIn (now «b_positions») (now «b_values») (now «b_weights») «b_stride») × («a_n» ≡ «b_n»)) ⌝ }
-    ensures { λ _. ⌜ now (pack .exit) ≡ addedScratch (now (pack .entry)) (filled setup (now (list .entry)) (now («value_edges» .entry)) auto
-        (pointsIn (now («a_positions» .entry)) (now («a_values» .entry)) (now («a_weights» .entry)) «a_stride» «a_n»)
-        (pointsIn (now («b_positions» .entry)) (now («b_values» .entry)) (now («b_weights» .entry)) «b_stride» «b_n») (take used zeroPack)) ⌝ }
-{
-    let mut scratch = parallel_serial::zeros_64();
-    run_in(
-        auto,
-        setup,
-        list,
-        value_edges,
-        a_positions,
-        a_values,
-        a_weights,
-        a_stride,
-        a_n,
-        b_positions,
-        b_values,
-        b_weights,
-        b_stride,
-        b_n,
-        &mut scratch[..used],
-        pack,
-    );
-}
-
-fn run_512(
-    auto: bool,
-    setup: Setup,
-    list: &[f64],
-    value_edges: &[f64],
-    a_positions: &[f64],
-    a_values: &[f64],
-    a_weights: &[f64],
-    a_stride: usize,
-    a_n: usize,
-    b_positions: &[f64],
-    b_values: &[f64],
-    b_weights: &[f64],
-    b_stride: usize,
-    b_n: usize,
-    used: usize,
-    pack: &mut [f64],
-)
-    requires { ⌜ used ≤ 512 ⌝ }
-    requires { ⌜ UsableRun setup (now list) (now «value_edges») ⌝ }
-    requires { ⌜ Readable (now «a_positions») (now «a_values») (now «a_weights») «a_n» «a_stride» ⌝ }
-    requires { ⌜ Readable (now «b_positions») (now «b_values») (now «b_weights») «b_n» «b_stride» ⌝ }
-    requires { ⌜ (auto ≡ true → (pointIn (now «a_positions») (now «a_values») (now «a_weights») «a_stride» ≡ pointIn (now «b_positions») (now «b_values») (now «b_weights») «b_stride») × («a_n» ≡ «b_n»)) ⌝ }
-    ensures { λ _. ⌜ now (pack .exit) ≡ addedScratch (now (pack .entry)) (filled setup (now (list .entry)) (now («value_edges» .entry)) auto
-        (pointsIn (now («a_positions» .entry)) (now («a_values» .entry)) (now («a_weights» .entry)) «a_stride» «a_n»)
-        (pointsIn (now («b_positions» .entry)) (now («b_values» .entry)) (now («b_weights» .entry)) «b_stride» «b_n») (take used zeroPack)) ⌝ }
-{
-    let mut scratch = parallel_serial::zeros_512();
-    run_in(
-        auto,
-        setup,
-        list,
-        value_edges,
-        a_positions,
-        a_values,
-        a_weights,
-        a_stride,
-        a_n,
-        b_positions,
-        b_values,
-        b_weights,
-        b_stride,
-        b_n,
-        &mut scratch[..used],
-        pack,
-    );
-}
-
-fn run_4096(
-    auto: bool,
-    setup: Setup,
-    list: &[f64],
-    value_edges: &[f64],
-    a_positions: &[f64],
-    a_values: &[f64],
-    a_weights: &[f64],
-    a_stride: usize,
-    a_n: usize,
-    b_positions: &[f64],
-    b_values: &[f64],
-    b_weights: &[f64],
-    b_stride: usize,
-    b_n: usize,
-    used: usize,
-    pack: &mut [f64],
-)
-    requires { ⌜ used ≤ 4096 ⌝ }
-    requires { ⌜ UsableRun setup (now list) (now «value_edges») ⌝ }
-    requires { ⌜ Readable (now «a_positions») (now «a_values») (now «a_weights») «a_n» «a_stride» ⌝ }
-    requires { ⌜ Readable (now «b_positions») (now «b_values») (now «b_weights») «b_n» «b_stride» ⌝ }
-    requires { ⌜ (auto ≡ true → (pointIn (now «a_positions») (now «a_values») (now «a_weights») «a_stride» ≡ pointIn (now «b_positions») (now «b_values») (now «b_weights») «b_stride») × («a_n» ≡ «b_n»)) ⌝ }
-    ensures { λ _. ⌜ now (pack .exit) ≡ addedScratch (now (pack .entry)) (filled setup (now (list .entry)) (now («value_edges» .entry)) auto
-        (pointsIn (now («a_positions» .entry)) (now («a_values» .entry)) (now («a_weights» .entry)) «a_stride» «a_n»)
-        (pointsIn (now («b_positions» .entry)) (now («b_values» .entry)) (now («b_weights» .entry)) «b_stride» «b_n») (take used zeroPack)) ⌝ }
-{
-    let mut scratch = parallel_serial::zeros();
-    run_in(
-        auto,
-        setup,
-        list,
-        value_edges,
-        a_positions,
-        a_values,
-        a_weights,
-        a_stride,
-        a_n,
-        b_positions,
-        b_values,
-        b_weights,
-        b_stride,
-        b_n,
-        &mut scratch[..used],
-        pack,
-    );
-}
-
 // The run, its scratch as large as it must be.
 fn run_sized(
     auto: bool,
@@ -1208,7 +1064,8 @@ fn run_sized(
         (pointsIn (now («b_positions» .entry)) (now («b_values» .entry)) (now («b_weights» .entry)) «b_stride» «b_n») (take used zeroPack)) ⌝ }
 {
     if used <= 64 {
-        run_64(
+        let mut scratch = parallel_serial::zeros_64();
+        run_in(
             auto,
             setup,
             list,
@@ -1223,13 +1080,14 @@ fn run_sized(
             b_weights,
             b_stride,
             b_n,
-            used,
+            &mut scratch[..used],
             pack,
         );
         return;
     }
     if used <= 512 {
-        run_512(
+        let mut scratch = parallel_serial::zeros_512();
+        run_in(
             auto,
             setup,
             list,
@@ -1244,12 +1102,13 @@ fn run_sized(
             b_weights,
             b_stride,
             b_n,
-            used,
+            &mut scratch[..used],
             pack,
         );
         return;
     }
-    run_4096(
+    let mut scratch = parallel_serial::zeros();
+    run_in(
         auto,
         setup,
         list,
@@ -1264,7 +1123,7 @@ fn run_sized(
         b_weights,
         b_stride,
         b_n,
-        used,
+        &mut scratch[..used],
         pack,
     );
 }
