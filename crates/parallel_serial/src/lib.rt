@@ -4,6 +4,7 @@ use bins::RegularNew;
 use reducer::BuiltEdges;
 use reducer::Edges;
 use reducer::Kind;
+use reducer::PairOperation;
 use reducer::Reducer;
 use state::Outcome;
 ghost use mathlib.Core.Path.{_≡_};
@@ -21,6 +22,14 @@ pub struct Shape {
     pub state_size: usize,
     pub members: usize,
     pub teams: usize,
+}
+
+// What is the same for each pair of a run.
+pub struct Setup {
+    pub op: PairOperation,
+    pub edges: BuiltEdges,
+    pub reducer: Reducer,
+    pub n_states: usize,
 }
 
 // ---- what is built once for a run

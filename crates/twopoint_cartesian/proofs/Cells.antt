@@ -17,7 +17,7 @@ use Rattle.laws.proofs.Places.{foldPack}
 use Rattle.idx_3d_offset.specs.declared.Axes.{Axes}
 use Rattle.idx_3d_offset.specs.declared.Idx3DOffset.{Idx3DOffset}
 use Rattle.idx_3d_offset.specs.Offsets.{idxOf, Within, Reach, Walkable}
-use Rattle.twopoint_cartesian.specs.declared.Setup.{Setup}
+use Rattle.parallel_serial.specs.declared.Setup.{Setup}
 use Rattle.twopoint_cartesian.specs.Cells.{Fields, RowFits, PlaneFits, BlockFits, Near, AllNear, Ready, Placed, fieldsIn, firstA, firstB, overlapOf, cellsAdded, rowAdded, planeAdded, blockAdded, pairStep, offsetCells}
 use Rattle.twopoint_cartesian.proofs.Distance.{back}
 

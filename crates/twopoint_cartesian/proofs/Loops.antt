@@ -8,7 +8,7 @@ use native.Mathlib.Omega.{arith}
 use lib.Ieee.{Float}
 use Rattle.laws.proofs.Loops.{loopLeft}
 use Rattle.reducer.specs.Consume as consume
-use Rattle.twopoint_cartesian.specs.declared.Setup.{Setup}
+use Rattle.parallel_serial.specs.declared.Setup.{Setup}
 use Rattle.twopoint_cartesian.specs.Cells.{Fields, rowAdded, planeAdded, blockAdded}
 
 loop-join : {S : Type 0} (body : ℕ → S → S) (k m l : ℕ) (s : S) → loopLeft body k (m + l) s ≡ loopLeft body (k + m) l (loopLeft body k m s)

@@ -25,7 +25,7 @@ use Rattle.reducer.specs.Consume.{builtBin, reducerSize, consumed}
 use Rattle.reducer.proofs.Reducer as reducers
 use Rattle.reducer.proofs.Placewise.{room}
 use Rattle.idx_3d_offset.specs.declared.Axes.{Axes}
-use Rattle.twopoint_cartesian.specs.declared.Setup.{Setup}
+use Rattle.parallel_serial.specs.declared.Setup.{Setup}
 use Rattle.twopoint_cartesian.specs.declared.Mean.{Mean}
 use Rattle.twopoint_cartesian.specs.Cells.{Fields, BlockFits, datumIn, cellsAdded, rowAdded, planeAdded, blockAdded, scalarOf, isMean, meanAdded, noMean, meanState, cellsInMean, rowInMean, planeInMean, blockInMean, fieldsIn, firstA, firstB, overlapOf, offsetMean, pairStep, offsetCells, fresh, Ready, stateMerged, mergedIn, offsetAdded, offsetsAdded}
 use Rattle.twopoint_cartesian.proofs.Loops.{left-turn, left-done}

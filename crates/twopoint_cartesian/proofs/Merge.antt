@@ -20,7 +20,7 @@ use Rattle.definitions.specs.Run.{place}
 use Rattle.laws.proofs.Places.{foldPack, bump, overwritten-turn}
 use Rattle.reducer.proofs.Placewise.{consumed-length}
 use Rattle.reducer.specs.Consume.{builtBins, builtFind, builtBin}
-use Rattle.twopoint_cartesian.specs.declared.Setup.{Setup}
+use Rattle.parallel_serial.specs.declared.Setup.{Setup}
 use Rattle.twopoint_cartesian.specs.declared.Mean.{Mean}
 use Rattle.twopoint_cartesian.specs.Cells.{fresh, cellsAdded, pairStep, stateMerged, Room, Roomy, mergedIn, meanState, offsetCells}
 use Rattle.twopoint_cartesian.proofs.Loops.{left-turn, left-done}

@@ -28,7 +28,7 @@ use Rattle.reducer.proofs.Placewise.{bin-bounded, room, made-bin, consumed-at}
 use Rattle.parallel_serial.specs.declared.Shape.{Shape}
 use Rattle.parallel_serial.specs.Drive.{runOf}
 use Rattle.parallel_serial.proofs.Scratch.{zero-at}
-use Rattle.twopoint_cartesian.specs.declared.Setup.{Setup}
+use Rattle.parallel_serial.specs.declared.Setup.{Setup}
 use Rattle.twopoint_cartesian.specs.Cells.{fieldsIn, readingIn, cellsAdded, pairStep, offsetCells, fresh, stateMerged, mergedIn, offsetAdded, offsetsAdded}
 use Rattle.twopoint_cartesian.proofs.Merge.{fold-length, pair-length, cells-length}
 

@@ -34,7 +34,7 @@ use Rattle.edge_batch.specs.Batch.{numberOr, foundOf, numberIn}
 use Rattle.edge_batch.proofs.Batch.{found-bins, indexIn, index-number, index-bin}
 use Rattle.idx_3d_offset.specs.declared.Axes.{Axes}
 use Rattle.idx_3d_offset.specs.Offsets.{Reach}
-use Rattle.twopoint_cartesian.specs.declared.Setup.{Setup}
+use Rattle.parallel_serial.specs.declared.Setup.{Setup}
 use Rattle.twopoint_cartesian.specs.declared.Tables.{Tables}
 use Rattle.twopoint_cartesian.specs.Cells.{Fields, readingIn, datumIn, cellsAdded, rowAdded, rowValue, weightAdded, weightsAdded, rowsWeighted, planeAdded, Gathered, PlaneFits, Binned, RowRoom, RowsRoom, Looked, Roomy, Ready, overlapOf, fresh}
 use Rattle.twopoint_cartesian.proofs.Loops.{left-turn, left-done, row-place}

@@ -46,7 +46,7 @@ use Rattle.spatial.specs.declared.CellWidth.{CellWidth}
 use Rattle.spatial.specs.Readings.{blockOf, widthOf}
 use Rattle.spatial.specs.Refusals as refusals
 use Rattle.spatial.specs.Refusals.{setsFor, setsNumber}
-use Rattle.twopoint_cartesian.specs.declared.Setup.{Setup}
+use Rattle.parallel_serial.specs.declared.Setup.{Setup}
 use Rattle.twopoint_cartesian.specs.Readings.{axesOf, setsRun}
 use Rattle.twopoint_cartesian.specs.Cells.{Ready, isMean, Findable, Roomy, zeroState, seqFor, offsetsAdded}
 use Rattle.twopoint_cartesian.proofs.Ready.{ready-sets}

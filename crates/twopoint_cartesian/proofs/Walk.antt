@@ -21,7 +21,7 @@ use Rattle.idx_3d_offset.specs.declared.Idx3DOffset.{Idx3DOffset}
 use Rattle.idx_3d_offset.specs.Offsets.{idxOf, crossSeq, autoSeq, Reach, lowest, offsetAfter}
 use Rattle.idx_3d_offset.proofs.Sequence.{cross-reach, auto-reach}
 use Rattle.idx_3d_offset.proofs.After.{cross-first, auto-first, cross-next, auto-next}
-use Rattle.twopoint_cartesian.specs.declared.Setup.{Setup}
+use Rattle.parallel_serial.specs.declared.Setup.{Setup}
 use Rattle.twopoint_cartesian.specs.Cells.{fresh, offsetCells, mergedIn, Room, Roomy, seqFor, offsetAdded, offsetsAdded}
 use Rattle.twopoint_cartesian.proofs.Merge.{bin-room}
 

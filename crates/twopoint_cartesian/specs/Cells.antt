@@ -26,7 +26,7 @@ use Rattle.edge_table.specs.declared.Table.{Table}
 use Rattle.edge_table.specs.Tabled.{Usable, Tabled}
 use Rattle.idx_3d_offset.specs.declared.Axes.{Axes}
 use Rattle.idx_3d_offset.specs.Offsets.{Walkable, crossSeq, autoSeq}
-use Rattle.twopoint_cartesian.specs.declared.Setup.{Setup}
+use Rattle.parallel_serial.specs.declared.Setup.{Setup}
 use Rattle.twopoint_cartesian.specs.declared.Tables.{Tables}
 use Rattle.twopoint_cartesian.specs.declared.Mean.{Mean}
 

@@ -3,6 +3,7 @@ use bins::BinIndex;
 use edge_table::Table;
 use idx_3d_offset::Axes;
 use idx_3d_offset::Idx3DOffset;
+use parallel_serial::Setup;
 use parallel_serial::Shape;
 use reducer::BuiltEdges;
 use reducer::Datum;
@@ -36,14 +37,6 @@ ghost use Rattle.spatial.specs.Readings.{blockOf, widthOf};
 ghost use Rattle.spatial.specs.Refusals.{setsFor};
 ghost use Rattle.twopoint_cartesian.specs.Readings.{axesOf, setsRun, autoRun, crossRun};
 ghost use Rattle.twopoint_cartesian.specs.Cells.{fields, readingIn, datumIn, rowValue, weightAdded, weightsAdded, Binned, RowRoom, RowsRoom, RowsIn, Gathered, rowsWeighted, Wide, Holds, RowFits, PlaneFits, BlockFits, Near, AllNear, Ready, Placed, rowAdded, scalarOf, isMean, cellsInMean, rowInMean, planeInMean, blockInMean, offsetMean, meanState, Looked, Findable, planeAdded, blockAdded, firstA, firstB, overlapOf, offsetCells, zeroState, fresh, Room, Roomy, stateMerged, mergedIn, offsetAdded, offsetsAdded, seqFor};
-
-// What is the same for each offset of a run.
-struct Setup {
-    op: PairOperation,
-    edges: BuiltEdges,
-    reducer: Reducer,
-    n_states: usize,
-}
 
 // For the lookups of distances, and of values in a histogram's edges.
 struct Tables {

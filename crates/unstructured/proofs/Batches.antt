@@ -38,7 +38,7 @@ use Rattle.edge_batch.specs.Batch.{numberOr, foundOf, numberIn}
 use Rattle.edge_table.specs.Tabled.{EndsOf, Tabled, TabledValues}
 use Rattle.edge_batch.proofs.Batch.{found-bins, indexIn, index-number, index-bin, inside-bin}
 use Rattle.edge_table.proofs.Lookup.{bin-low, bin-high, found-bin}
-use Rattle.unstructured.specs.declared.Setup.{Setup}
+use Rattle.parallel_serial.specs.declared.Setup.{Setup}
 use Rattle.unstructured.specs.declared.Pair.{Pair}
 use Rattle.unstructured.specs.declared.Pair.the-variants.{Kept, Dropped}
 use Rattle.unstructured.specs.Pairs.{thePair, pointIn, Readable, builtPair, pairAdded, pairStep, rowAdded}

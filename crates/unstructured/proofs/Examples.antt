@@ -8,7 +8,7 @@ use Rattle.reducer.specs.declared.Reducer.{Reducer}
 use Rattle.reducer.specs.declared.Reducer.the-variants.{ComponentSumMean, ComponentSumHistogram}
 use Rattle.reducer.specs.declared.PairOperation.the-variants.{ElementwiseMultiply}
 use Rattle.edge_table.proofs.Examples.{edges, table, usable}
-use Rattle.unstructured.specs.declared.Setup.{Setup}
+use Rattle.parallel_serial.specs.declared.Setup.{Setup}
 use Rattle.unstructured.specs.declared.Tables.{Tables}
 use Rattle.unstructured.specs.Batches.{UsableRun, TabledRun}
 

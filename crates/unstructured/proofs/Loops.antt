@@ -23,7 +23,7 @@ use Rattle.reducer.specs.Readings.{opOf, theDatum, readingOf}
 use Rattle.reducer.specs.Consume.{consumedAt}
 use Rattle.unstructured.specs.declared.Pair.{Pair}
 use Rattle.unstructured.specs.declared.Pair.the-variants.{Kept, Dropped}
-use Rattle.unstructured.specs.declared.Setup.{Setup}
+use Rattle.parallel_serial.specs.declared.Setup.{Setup}
 use Rattle.unstructured.specs.Pairs.{thePair, firstPartner, pairStep, rowAdded, filled}
 use Rattle.unstructured.specs.Batches.{numberedPair, pairPlaced}
 

@@ -42,7 +42,7 @@ use Rattle.unstructured_points.specs.declared.PointSet.{PointSet}
 use Rattle.unstructured_points.specs.Readings.{strideOf, pointsOf}
 use Rattle.unstructured_points.specs.Sets as sets
 use Rattle.unstructured_points.specs.Sets.{setsFor, setsNumber}
-use Rattle.unstructured.specs.declared.Setup.{Setup}
+use Rattle.parallel_serial.specs.declared.Setup.{Setup}
 use Rattle.unstructured.specs.Readings.{setsRun}
 use Rattle.unstructured.specs.Pairs.{Readable, Held, pointIn, pointsIn, pairsFor, builtPair, pairAdded, pairStep, filled}
 use Rattle.unstructured.specs.Batches.{UsableRun}

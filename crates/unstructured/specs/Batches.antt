@@ -20,7 +20,7 @@ use Rattle.reducer.specs.Consume.{builtBins, consumedAt}
 use Rattle.edge_table.specs.Table.{flagOf}
 use Rattle.edge_batch.specs.Batch.{numberIn}
 use Rattle.edge_table.specs.Tabled.{Usable, UsableValues, Tabled, TabledValues}
-use Rattle.unstructured.specs.declared.Setup.{Setup}
+use Rattle.parallel_serial.specs.declared.Setup.{Setup}
 use Rattle.unstructured.specs.declared.Tables.{Tables}
 
 -- the run's edges and value edges can be looked up by tables, and each bin has a state

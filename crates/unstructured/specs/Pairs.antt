@@ -16,7 +16,7 @@ use Rattle.reducer.specs.Readings.{opOf}
 use Rattle.reducer.specs.Consume.{builtBin, consumed}
 use Rattle.unstructured.specs.declared.Pair.{Pair}
 use Rattle.unstructured.specs.declared.Pair.the-variants.{Kept, Dropped}
-use Rattle.unstructured.specs.declared.Setup.{Setup}
+use Rattle.parallel_serial.specs.declared.Setup.{Setup}
 
 abbrev pub thePair : Pair → Reducer.Pair
 thePair (Kept b c0 c1 c2 w) = kept b (record { c0 = c0; c1 = c1; c2 = c2; weight = w })

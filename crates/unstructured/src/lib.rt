@@ -1,6 +1,7 @@
 // Two-point runs over unstructured points.
 use bins::BinIndex;
 use edge_table::Table;
+use parallel_serial::Setup;
 use parallel_serial::Shape;
 use reducer::BuiltEdges;
 use reducer::Datum;
@@ -37,14 +38,6 @@ ghost use Rattle.unstructured.specs.Batches.{UsableRun, TabledRun, Rooms
 pub enum Pair {
     Kept(usize, f64, f64, f64, f64),
     Dropped,
-}
-
-// What is the same for each pair of a run.
-struct Setup {
-    op: PairOperation,
-    edges: BuiltEdges,
-    reducer: Reducer,
-    n_states: usize,
 }
 
 // Ends of the distance edges and of the value edges, and where their hints are.
