@@ -913,75 +913,10 @@ fn few_points(edges: BuiltEdges, n_states: usize, n: usize) -> bool {
     }
 }
 
-// All pairs of the run, first point ascending, second ascending within it. In auto the two sets are one.
-fn fill(
-    auto: bool,
-    setup: Setup,
-    list: &[f64],
-    value_edges: &[f64],
-    a_positions: &[f64],
-    a_values: &[f64],
-    a_weights: &[f64],
-    a_stride: usize,
-    a_n: usize,
-    b_positions: &[f64],
-    b_values: &[f64],
-    b_weights: &[f64],
-    b_stride: usize,
-    b_n: usize,
-    scratch: &mut [f64],
-)
-    requires { ⌜ UsableRun setup (now list) (now «value_edges») ⌝ }
-    requires { ⌜ Readable (now «a_positions») (now «a_values») (now «a_weights») «a_n» «a_stride» ⌝ }
-    requires { ⌜ Readable (now «b_positions») (now «b_values») (now «b_weights») «b_n» «b_stride» ⌝ }
-    requires { ⌜ (auto ≡ true → (pointIn (now «a_positions») (now «a_values») (now «a_weights») «a_stride» ≡ pointIn (now «b_positions») (now «b_values») (now «b_weights») «b_stride») × («a_n» ≡ «b_n»)) ⌝ }
-    ensures { λ _. ⌜ now (scratch .exit) ≡ filled setup (now (list .entry)) (now («value_edges» .entry)) auto
-        (pointsIn (now («a_positions» .entry)) (now («a_values» .entry)) (now («a_weights» .entry)) «a_stride» «a_n»)
-        (pointsIn (now («b_positions» .entry)) (now («b_values» .entry)) (now («b_weights» .entry)) «b_stride» «b_n») (now (scratch .entry)) ⌝ }
-{
-    let edges = setup.edges;
-    if few_points(edges, setup.n_states, b_n) {
-        fill_few(
-            auto,
-            setup,
-            list,
-            value_edges,
-            a_positions,
-            a_values,
-            a_weights,
-            a_stride,
-            a_n,
-            b_positions,
-            b_values,
-            b_weights,
-            b_stride,
-            b_n,
-            scratch,
-        );
-        return;
-    }
-    fill_many(
-        auto,
-        setup,
-        list,
-        value_edges,
-        a_positions,
-        a_values,
-        a_weights,
-        a_stride,
-        a_n,
-        b_positions,
-        b_values,
-        b_weights,
-        b_stride,
-        b_n,
-        scratch,
-    );
-}
-
 // ---- runs
 
-// Fills scratch and adds it to the caller's pack. Lending the slices on (&*), here and in drive, lets the compiler pass them by value.
+// All pairs of the run, first point ascending, second ascending within it, into scratch, which is then added to the caller's pack. In auto the two sets are one.
+// Lending the slices on (&*), here and in drive, lets the compiler pass them by value.
 fn run_in(
     auto: bool,
     setup: Setup,
@@ -1008,23 +943,44 @@ fn run_in(
         (pointsIn (now («a_positions» .entry)) (now («a_values» .entry)) (now («a_weights» .entry)) «a_stride» «a_n»)
         (pointsIn (now («b_positions» .entry)) (now («b_values» .entry)) (now («b_weights» .entry)) «b_stride» «b_n») (now (scratch .entry))) ⌝ }
 {
-    fill(
-        auto,
-        setup,
-        &*list,
-        &*value_edges,
-        &*a_positions,
-        &*a_values,
-        &*a_weights,
-        a_stride,
-        a_n,
-        &*b_positions,
-        &*b_values,
-        &*b_weights,
-        b_stride,
-        b_n,
-        scratch,
-    );
+    let edges = setup.edges;
+    if few_points(edges, setup.n_states, b_n) {
+        fill_few(
+            auto,
+            setup,
+            &*list,
+            &*value_edges,
+            &*a_positions,
+            &*a_values,
+            &*a_weights,
+            a_stride,
+            a_n,
+            &*b_positions,
+            &*b_values,
+            &*b_weights,
+            b_stride,
+            b_n,
+            &mut *scratch,
+        );
+    } else {
+        fill_many(
+            auto,
+            setup,
+            &*list,
+            &*value_edges,
+            &*a_positions,
+            &*a_values,
+            &*a_weights,
+            a_stride,
+            a_n,
+            &*b_positions,
+            &*b_values,
+            &*b_weights,
+            b_stride,
+            b_n,
+            &mut *scratch,
+        );
+    }
     parallel_serial::add_scratch(scratch, pack);
 }
 
