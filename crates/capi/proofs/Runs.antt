@@ -13,6 +13,7 @@ use Rattle.reducer.specs.declared.PairOperation.{PairOperation}
 use Rattle.reducer.specs.declared.Edges.{Edges}
 use Rattle.reducer.specs.declared.Kind.{Kind}
 use Rattle.parallel_serial.specs.declared.Shape.{Shape}
+use Rattle.parallel_serial.specs.Drive.{setsRun}
 use Rattle.unstructured_points.specs.declared.Stride.{Stride}
 use Rattle.unstructured_points.specs.Readings.{pointsOf}
 use Rattle.spatial.specs.declared.Block.{Block}
@@ -28,15 +29,11 @@ module _ (run given : Run) (same : run ≡ given) where
   run-pack pack left e = e ∙ ap (λ (r : Run). step r pack) same
 
 -- ---- the same run, by what the code's parts are
-abbrev RunsOf : Type 0
-RunsOf = Sets → Edges → List Float → Kind → List Float → PairOperation → Shape → Run
-
--- `runs` is the points' or the blocks'
-pub same-runs : (runs : RunsOf) (sets given-sets : Sets) (e given-e v given-v : Edges) (form : ℕ) (k : Kind) (o given-o : PairOperation) (list values : List Float) (shape : Shape)
+pub same-runs : (sets given-sets : Sets) (e given-e v given-v : Edges) (form : ℕ) (k : Kind) (o given-o : PairOperation) (list values : List Float) (shape : Shape)
     → sets ≡ given-sets → e ≡ given-e → v ≡ given-v → k ≡ kindFrom form v → o ≡ given-o
-    → runs sets e list k values o shape ≡ runs given-sets given-e list (kindFrom form given-v) values given-o shape
-same-runs runs sets given-sets e given-e v given-v form k o given-o list values shape p q r s t =
-    λ i. runs (p i) (q i) list ((s ∙ ap (kindFrom form) r) i) values (t i) shape
+    → setsRun sets e list k values o shape ≡ setsRun given-sets given-e list (kindFrom form given-v) values given-o shape
+same-runs sets given-sets e given-e v given-v form k o given-o list values shape p q r s t =
+    λ i. setsRun (p i) (q i) list ((s ∙ ap (kindFrom form) r) i) values (t i) shape
 
 pub same-set : (n k stated : ℕ) (s : Stride) (p v w : List Float) → s ≡ strideFrom stated k → pointsOf (record { «n_points» = n; stride = s }) p v w ≡ pointsOf (setFrom n stated k) p v w
 same-set n k stated s p v w e = λ i. pointsOf (record { «n_points» = n; stride = e i }) p v w

@@ -1,21 +1,29 @@
--- The refusal of a run is the definitions', and what follows where there is none.
-use mathlib.Core.Path.{_≡_, refl, sym, _∙_}
+-- The refusal of a run is the definitions', what follows where there is none, and what a run then answers and leaves.
+use mathlib.Core.Path.{_≡_, refl, sym, ap, _∙_}
+use mathlib.Core.Option.{Option}
 use mathlib.Core.Bool.{Bool, true, false, not, cond, _&&_, _||_, true≢false}
-use mathlib.Core.List.{_∷_}
+use mathlib.Core.List.{List, _∷_}
 use Prim.Native.Nat.{ℕ, _*_, _≤_}
 use native.Mathlib.Omega.{arith}
 use lib.Dec.{T, leb, ltb, eqb}
-use borrow.Author.Tests.{ltb-false, leb-true, eqb-true, eqb-false}
+use lib.ListN.{length}
+use lib.Ieee.{Float}
+use borrow.Author.Tests.{ltb-false, leb-true, eqb-true, eqb-false, eq-eqb, ne-eqb}
 use Rattle.definitions.specs.Bins as definitions
 use Rattle.definitions.specs.Bins.{bins}
 use Rattle.definitions.specs.Reducer.{stateKind, kindSize}
 use Rattle.definitions.specs.Reducer as kinds
-use Rattle.definitions.specs.Run.{Sets, onePoints, twoPoints, oneBlock, twoBlocks}
-use Rattle.definitions.specs.Rules.{rule, refusal, overSets, overState, overPack, edgeRules, edgesCallRules, kindRules, setRules, pairRules, runRules}
+use Rattle.definitions.specs.Run.{Sets, onePoints, twoPoints, oneBlock, twoBlocks, Run, merged}
+use Rattle.definitions.specs.Rules as rules
+use Rattle.definitions.specs.Rules.{rule, refusal, overSets, overState, overPack, edgeRules, edgesCallRules, kindRules, setRules, pairRules, runRules, step, met}
 use Rattle.laws.proofs.Refusals.{numbered, orElse, refusal-append}
 use Rattle.state_refusals.proofs.Refusals.{kind-over}
+use Rattle.reducer.specs.declared.Edges.{Edges}
+use Rattle.reducer.specs.declared.Kind.{Kind}
+use Rattle.reducer.specs.declared.PairOperation.{PairOperation}
+use Rattle.reducer.specs.Readings.{opOf, edgesOf, kindOf}
 use Rattle.parallel_serial.specs.declared.Shape.{Shape}
-use Rattle.parallel_serial.specs.Drive.{overNumbers, shapeRules, runNumber, runOf}
+use Rattle.parallel_serial.specs.Drive.{overNumbers, shapeRules, runNumber, setsNumber, runOf, setsRun}
 
 -- ---- limits
 either : (a b : Bool) → (a || b) ≡ false → (a ≡ false) × (b ≡ false)
@@ -132,3 +140,25 @@ accepted over sets pairs e k shape len h =
         within = leb-true (bins e * kindSize k) len (f .1);
       };
     }
+
+-- ---- what a run answers and leaves; x is what its refusal function answered
+module _ (sets : Sets) (edges : Edges) (list : List Float) (kind : Kind) (valueEdges : List Float) (op : PairOperation) (shape : Shape) (s : List Float) (x : ℕ)
+    (h : x ≡ setsNumber sets (edgesOf edges list) (kindOf kind valueEdges) shape (length s)) where
+  abbrev this : Run
+  this = setsRun sets edges list kind valueEdges op shape
+
+  own-number : x ≡ refusal (runRules this (length s))
+  unfolding setsNumber setsRun
+  own-number = h ∙ run-number sets (opOf op) (edgesOf edges list) (kindOf kind valueEdges) shape (length s)
+
+  -- o is the outcome's number
+  pub answer : (o : Option ℕ) → o ≡ met x → o ≡ met (refusal (runRules this (length s)))
+  answer o e = e ∙ ap met own-number
+
+  pub stays : (x ≡ 0 → ⊥) → s ≡ step this s
+  unfolding rules.step rules.accepted
+  stays z = rw (← own-number, ne-eqb x 0 z)
+
+  pub done : x ≡ 0 → (q : List Float) → q ≡ merged this s → q ≡ step this s
+  unfolding rules.step rules.accepted
+  done z q e = e ∙ (rw (← own-number, eq-eqb x 0 z))

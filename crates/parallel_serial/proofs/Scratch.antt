@@ -1,22 +1,19 @@
--- Scratch: the part of the zeros that is lent, its addition to the caller's pack, and what a run answers and leaves.
+-- Scratch: the part of the zeros that is lent, and its addition to the caller's pack.
 use mathlib.Core.Path.{_≡_, refl, sym, ap, _∙_}
-use mathlib.Core.Option.{Option}
 use mathlib.Core.Bool.{Bool, true, false, cond}
 use mathlib.Core.List.{List, [], _∷_, _++_, map}
 use Prim.Native.Nat.{ℕ, zero, suc, _+_, _-_, _<_, _≤_}
 use native.Mathlib.Nat.{add-zero, le-refl, not-suc-le-zero, le-of-suc-le-suc}
 use native.Mathlib.Omega.{arith}
-use lib.Dec.{leb, eqb}
+use lib.Dec.{leb}
 use lib.ListN.{length, set, take, drop, replicate, length-replicate}
 use lib.Seq.{length-take-le, take-take, getD-set-other}
 use lib.Ieee.{Float, nan, binary64, add}
-use borrow.Author.Tests.{le-leb, lt-leb, eq-eqb, ne-eqb}
+use borrow.Author.Tests.{le-leb, lt-leb}
 use Rattle.definitions.specs.Lists.{at, range, upto, overwritten}
 use Rattle.definitions.specs.Floats.{zeroF}
 use Rattle.definitions.specs.Run.{Run, used, scratch, merged}
 use Rattle.definitions.specs.State.{mergePacks}
-use Rattle.definitions.specs.Rules as rules
-use Rattle.definitions.specs.Rules.{refusal, runRules, step, met}
 use Rattle.laws.proofs.Places.{bump}
 use Rattle.state.proofs.Packs.{merge-turn, merge-done}
 use Rattle.parallel_serial.specs.Drive.{zeroPack, summed, addedScratch}
@@ -114,17 +111,3 @@ unfolding addedScratch
 added-merged r s z e h same =
     (rw (e, le-leb (used r) (length s) h))
     ∙ ap (λ (l : List Float). l ++ drop (used r) s) (map-same (λ p. add binary64 (at s p) (at z p)) (λ p. add binary64 (at s p) (scratch r p)) 0 (used r) (λ p l. ap (add binary64 (at s p)) (same p (omega arith))))
-
--- ---- what a run answers and leaves; x is what its refusal function answered
-module _ (r : Run) (s : List Float) (x : ℕ) (h : x ≡ refusal (runRules r (length s))) where
-  -- o is the outcome's number
-  pub run-answer : (o : Option ℕ) → o ≡ met x → o ≡ met (refusal (runRules r (length s)))
-  run-answer o e = e ∙ ap met h
-
-  pub step-refused : (x ≡ 0 → ⊥) → s ≡ step r s
-  unfolding rules.step rules.accepted
-  step-refused z = rw (← h, ne-eqb x 0 z)
-
-  pub step-done : x ≡ 0 → (q : List Float) → q ≡ merged r s → q ≡ step r s
-  unfolding rules.step rules.accepted
-  step-done z q e = e ∙ (rw (← h, eq-eqb x 0 z))

@@ -13,7 +13,7 @@ use Rattle.definitions.specs.Reducer as Reducer
 use Rattle.definitions.specs.Reducer.{stateKind, kindSize}
 use Rattle.definitions.specs.Run.{Sets, Run}
 use Rattle.definitions.specs.State.{mergePacks}
-use Rattle.definitions.specs.Rules.{Rule, rule, refusal, ifAccepted, overPack, edgeRules, edgesCallRules, kindRules}
+use Rattle.definitions.specs.Rules.{Rule, rule, refusal, ifAccepted, overPack, overSets, setRules, pairRules, edgeRules, edgesCallRules, kindRules}
 use Rattle.laws.proofs.Places.{bump}
 use Rattle.laws.proofs.Refusals.{orElse}
 use Rattle.bins.specs.Answers.{regularOf}
@@ -21,6 +21,8 @@ use Rattle.reducer.specs.declared.Edges.{Edges}
 use Rattle.reducer.specs.declared.Edges.the-variants.{Regular, Irregular}
 use Rattle.reducer.specs.declared.Kind.{Kind}
 use Rattle.reducer.specs.declared.Kind.the-variants.{Comp0Mean, ComponentSumMean, ComponentSumHistogram}
+use Rattle.reducer.specs.declared.PairOperation.{PairOperation}
+use Rattle.reducer.specs.Readings.{opOf, edgesOf, kindOf}
 use Rattle.reducer.specs.declared.BuiltEdges.{BuiltEdges}
 use Rattle.reducer.specs.declared.BuiltEdges.the-variants as built
 use Rattle.reducer.specs.declared.Reducer.{Reducer}
@@ -65,6 +67,14 @@ runNumber over sets pairs e k shape len =
     cond (overNumbers over (bins e) (kindSize k) (shape .«n_states») (shape .«state_size»)) 7
     (orElse sets (orElse (refusal (edgeRules e)) (orElse (refusal (kindRules k)) (orElse pairs (refusal (shapeRules shape (bins e) (kindSize k) len))))))
 
+-- of a run over the sets
+unfoldable pub setsNumber : Sets → Bins.Edges → Reducer.Kind → Shape → ℕ → ℕ
+setsNumber sets e k shape len = runNumber (overSets sets) (refusal (setRules sets)) (refusal (pairRules sets)) e k shape len
+
 -- a run by its sets and what the runs share
 abbrev pub runOf : Sets → Reducer.PairOperation → Bins.Edges → Reducer.Kind → Shape → Run
 runOf sets op e k shape = record { sets = sets; op = op; kind = k; edges = e; states = shape .«n_states»; size = shape .«state_size»; members = shape .members; teams = shape .teams }
+
+-- the same by what a caller states
+unfoldable pub setsRun : Sets → Edges → List Float → Kind → List Float → PairOperation → Shape → Run
+setsRun sets edges list kind valueEdges op shape = runOf sets (opOf op) (edgesOf edges list) (kindOf kind valueEdges) shape

@@ -18,7 +18,8 @@ use Rattle.parallel_serial.specs.declared.Shape.{Shape}
 use Rattle.unstructured_points.specs.declared.Stride.the-variants.{Given}
 use Rattle.unstructured_points.specs.declared.PointSet.{PointSet}
 use Rattle.unstructured_points.specs.Readings.{pointsOf}
-use Rattle.unstructured.specs.Readings.{setsRun, autoRun}
+use Rattle.parallel_serial.specs.Drive.{setsRun}
+use Rattle.unstructured.specs.Readings.{autoRun}
 use Rattle.record_bytes.specs.Stores.{stored}
 use Rattle.record_bytes.specs.Columns.{numbers, threeNumbers, edgesRead, threeRead, weightsRead}
 use Rattle.records.specs.Answers.{curveRun, listedCurve, recordCurve}

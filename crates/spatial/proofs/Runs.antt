@@ -9,12 +9,12 @@ use Rattle.definitions.specs.Reducer as kinds
 use Rattle.definitions.specs.Run as run
 use Rattle.definitions.specs.Rules.{refusal, overSets, setRules, pairRules}
 use Rattle.parallel_serial.specs.declared.Shape.{Shape}
-use Rattle.parallel_serial.specs.Drive.{runNumber}
+use Rattle.parallel_serial.specs.Drive.{runNumber, setsNumber}
 use Rattle.parallel_serial.proofs.Refusals.{run-limit}
 use Rattle.spatial.specs.declared.Block.{Block}
 use Rattle.spatial.specs.declared.CellWidth.{CellWidth}
 use Rattle.spatial.specs.Readings.{blockOf, widthOf}
-use Rattle.spatial.specs.Refusals.{setsFor, noWidth, setsNumber}
+use Rattle.spatial.specs.Refusals.{setsFor, noWidth}
 
 -- r, n and m are what calls answered
 module _ (auto : Bool) (width : CellWidth) (a b : Block) (a0 a1 a2 aw b0 b1 b2 bw : List Float) where

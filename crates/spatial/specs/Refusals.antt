@@ -1,16 +1,12 @@
--- What the functions that judge a run promise: the definitions' tests in parts, and a run's number.
+-- What the functions that judge a run promise: the definitions' tests in parts.
 use mathlib.Core.Bool.{Bool, true, false, not, _&&_, _||_}
 use Prim.Native.Nat.{ℕ, _≤_}
 use lib.Dec.{ltb}
 use lib.Ieee.{nan}
-use Rattle.definitions.specs.Bins as Bins
 use Rattle.definitions.specs.Blocks as Blocks
 use Rattle.definitions.specs.Blocks.{CartesianBlock, requiredLength}
-use Rattle.definitions.specs.Reducer as Reducer
 use Rattle.definitions.specs.Run.{Sets, oneBlock, twoBlocks}
-use Rattle.definitions.specs.Rules.{refusal, outside, zeroAxis, overSets, setRules, pairRules}
-use Rattle.parallel_serial.specs.declared.Shape.{Shape}
-use Rattle.parallel_serial.specs.Drive.{runNumber}
+use Rattle.definitions.specs.Rules.{outside, zeroAxis}
 use Rattle.spatial.specs.declared.Block.{Block}
 
 -- in auto the two blocks are one
@@ -31,10 +27,6 @@ lengthOver b = not (zeroAxis b) && ltb 65536 (requiredLength b)
 
 unfoldable pub globalsOver : CartesianBlock → Bool
 globalsOver b = outside (b .gz) || outside (b .gy) || outside (b .gx)
-
--- the number that a run over the sets answers
-unfoldable pub setsNumber : Sets → Bins.Edges → Reducer.Kind → Shape → ℕ → ℕ
-setsNumber sets e k shape len = runNumber (overSets sets) (refusal (setRules sets)) (refusal (pairRules sets)) e k shape len
 
 -- a block whose axes and strides are within the limits
 pub record Limited (b : Block) : Type 0 where

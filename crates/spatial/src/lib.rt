@@ -9,8 +9,9 @@ ghost use Prim.Native.Nat.{_≤_};
 ghost use Rattle.definitions.specs.Blocks.{requiredLength};
 ghost use Rattle.definitions.specs.Rules.{refusal, outside as outsideOf, overBlock, blockRules, widthRules, precedes as precedesOf, overSets, setRules, pairRules};
 ghost use Rattle.reducer.specs.Readings.{edgesOf, kindOf};
+ghost use Rattle.parallel_serial.specs.Drive.{setsNumber};
 ghost use Rattle.spatial.specs.Readings.{blockOf, widthOf};
-ghost use Rattle.spatial.specs.Refusals.{setsFor, setsNumber, noWidth, numbersOver, lengthOver, globalsOver, Limited};
+ghost use Rattle.spatial.specs.Refusals.{setsFor, noWidth, numbersOver, lengthOver, globalsOver, Limited};
 
 // Axes, strides and global offsets in the order z, y, x.
 pub struct Block {

@@ -21,7 +21,7 @@ use Rattle.definitions.specs.Reducer as kinds
 use Rattle.definitions.specs.Reducer.{kindSize}
 use Rattle.definitions.specs.Run as run
 use Rattle.definitions.specs.Run.{Run, offsetAt, scratch, merged}
-use Rattle.definitions.specs.Rules.{refusal, overSets, setRules, pairRules, runRules, step, met}
+use Rattle.definitions.specs.Rules.{refusal, overSets, setRules, pairRules}
 use Rattle.reducer.specs.declared.Edges.{Edges}
 use Rattle.reducer.specs.declared.Kind.{Kind}
 use Rattle.reducer.specs.declared.PairOperation.{PairOperation}
@@ -35,48 +35,29 @@ use Rattle.edge_table.specs.Tabled.{Usable, UsableValues}
 use Rattle.edge_table.proofs.Lookup.{usable-made, usable-values-made}
 use Rattle.parallel_serial.specs.declared.Shape.{Shape}
 use Rattle.parallel_serial.specs.Drive as drive
-use Rattle.parallel_serial.specs.Drive.{zeroPack, addedScratch, builtEdges, builtReducer}
-use Rattle.parallel_serial.proofs.Refusals.{run-number, Drivable, Accepted, accepted}
+use Rattle.parallel_serial.specs.Drive.{zeroPack, addedScratch, builtEdges, builtReducer, setsNumber, setsRun}
+use Rattle.parallel_serial.proofs.Refusals.{Drivable, Accepted, accepted}
 use Rattle.parallel_serial.proofs.Built.{built-made, reducer-made}
-use Rattle.parallel_serial.proofs.Scratch.{lent-length, lent-zeros, added-merged, run-answer, step-refused, step-done}
+use Rattle.parallel_serial.proofs.Scratch.{lent-length, lent-zeros, added-merged}
 use Rattle.idx_3d_offset.specs.Offsets.{autoSeq}
 use Rattle.idx_3d_offset.proofs.Sequence.{cross-all, auto-fold}
 use Rattle.spatial.specs.declared.Block.{Block}
 use Rattle.spatial.specs.declared.CellWidth.{CellWidth}
 use Rattle.spatial.specs.Readings.{blockOf, widthOf}
-use Rattle.spatial.specs.Refusals as refusals
-use Rattle.spatial.specs.Refusals.{setsFor, setsNumber}
+use Rattle.spatial.specs.Refusals.{setsFor}
 use Rattle.parallel_serial.specs.declared.Setup.{Setup}
-use Rattle.twopoint_cartesian.specs.Readings.{axesOf, setsRun}
+use Rattle.twopoint_cartesian.specs.Readings.{axesOf}
 use Rattle.twopoint_cartesian.specs.Cells.{Ready, isMean, Findable, Roomy, zeroState, seqFor, offsetsAdded}
 use Rattle.twopoint_cartesian.proofs.Ready.{ready-sets}
 use Rattle.twopoint_cartesian.proofs.Means.{any-added, mean-size}
 use Rattle.twopoint_cartesian.proofs.Placewise.{theRun, filled-length, filled-at}
 
--- ---- what follows of the number; x is what a call answered
-module _ (sets : run.Sets) (edges : Edges) (list : List Float) (kind : Kind) (valueEdges : List Float) (op : PairOperation) (shape : Shape) (s : List Float) (x : ℕ)
-    (h : x ≡ setsNumber sets (edgesOf edges list) (kindOf kind valueEdges) shape (length s)) where
-  abbrev this : Run
-  this = setsRun sets edges list kind valueEdges op shape
-
-  own-number : x ≡ refusal (runRules this (length s))
-  unfolding refusals.setsNumber setsRun
-  own-number = h ∙ run-number sets (opOf op) (edgesOf edges list) (kindOf kind valueEdges) shape (length s)
-
-  pub answer : (o : Option ℕ) → o ≡ met x → o ≡ met (refusal (runRules this (length s)))
-  answer = run-answer this s x own-number
-
-  pub stays : (x ≡ 0 → ⊥) → s ≡ step this s
-  stays n = step-refused this s x own-number n
-
-  pub done : x ≡ 0 → (q : List Float) → q ≡ merged this s → q ≡ step this s
-  done z q e = step-done this s x own-number z q e
-
+-- ---- what follows where a run has no refusal; x is what a call answered
 module _ (auto : Bool) (width : blocks.CellWidth) (a b : CartesianBlock) (edges : Edges) (list : List Float) (kind : Kind) (valueEdges : List Float) (shape : Shape) (s : List Float) (x : ℕ)
     (h : x ≡ setsNumber (setsFor auto width a b) (edgesOf edges list) (kindOf kind valueEdges) shape (length s)) where
   module _ (z : x ≡ 0) where
     all : Accepted (overSets (setsFor auto width a b)) (refusal (setRules (setsFor auto width a b))) (refusal (pairRules (setsFor auto width a b))) (edgesOf edges list) (kindOf kind valueEdges) shape (length s)
-    unfolding refusals.setsNumber
+    unfolding drive.setsNumber
     all = accepted (overSets (setsFor auto width a b)) (refusal (setRules (setsFor auto width a b))) (refusal (pairRules (setsFor auto width a b))) (edgesOf edges list) (kindOf kind valueEdges) shape (length s) (sym h ∙ z)
 
     pub drivable : Drivable (edgesOf edges list) (kindOf kind valueEdges) shape (length s)

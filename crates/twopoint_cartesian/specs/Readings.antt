@@ -2,13 +2,12 @@
 use mathlib.Core.List.{List}
 use lib.Ieee.{Float}
 use Rattle.definitions.specs.Blocks.{CartesianBlock}
-use Rattle.definitions.specs.Run.{Sets, oneBlock, twoBlocks, Run}
+use Rattle.definitions.specs.Run.{oneBlock, twoBlocks, Run}
 use Rattle.reducer.specs.declared.PairOperation.{PairOperation}
 use Rattle.reducer.specs.declared.Edges.{Edges}
 use Rattle.reducer.specs.declared.Kind.{Kind}
-use Rattle.reducer.specs.Readings.{opOf, edgesOf, kindOf}
 use Rattle.parallel_serial.specs.declared.Shape.{Shape}
-use Rattle.parallel_serial.specs.Drive.{runOf}
+use Rattle.parallel_serial.specs.Drive.{setsRun}
 use Rattle.idx_3d_offset.specs.declared.Axes.{Axes}
 use Rattle.spatial.specs.declared.Block.{Block}
 use Rattle.spatial.specs.declared.CellWidth.{CellWidth}
@@ -16,10 +15,6 @@ use Rattle.spatial.specs.Readings.{widthOf}
 
 abbrev pub axesOf : Block → Axes
 axesOf b = record { z = b .nz; y = b .ny; x = b .nx }
-
--- a run over the sets
-unfoldable pub setsRun : Sets → Edges → List Float → Kind → List Float → PairOperation → Shape → Run
-setsRun sets edges list kind valueEdges op shape = runOf sets (opOf op) (edgesOf edges list) (kindOf kind valueEdges) shape
 
 abbrev pub autoRun : CellWidth → CartesianBlock → Edges → List Float → Kind → List Float → PairOperation → Shape → Run
 autoRun width a edges list kind valueEdges op shape = setsRun (oneBlock (widthOf width) a) edges list kind valueEdges op shape

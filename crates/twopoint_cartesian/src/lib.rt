@@ -30,12 +30,12 @@ ghost use Rattle.state.specs.Readings.{numberOf};
 ghost use Rattle.reducer.specs.Readings.{theDatum, readingOf, edgesOf, kindOf};
 ghost use Rattle.reducer.specs.Consume.{builtBin};
 ghost use Rattle.edge_table.specs.Tabled.{Usable, Tabled};
-ghost use Rattle.parallel_serial.specs.Drive.{zeroPack, addedScratch};
+ghost use Rattle.parallel_serial.specs.Drive.{zeroPack, addedScratch, setsRun};
 ghost use Rattle.parallel_serial.proofs.Refusals.{Drivable};
 ghost use Rattle.idx_3d_offset.specs.Offsets.{idxOf, Axis, Walkable, lowest as lowestOf, offsetAfter, Reach};
 ghost use Rattle.spatial.specs.Readings.{blockOf, widthOf};
 ghost use Rattle.spatial.specs.Refusals.{setsFor};
-ghost use Rattle.twopoint_cartesian.specs.Readings.{axesOf, setsRun, autoRun, crossRun};
+ghost use Rattle.twopoint_cartesian.specs.Readings.{axesOf, autoRun, crossRun};
 ghost use Rattle.twopoint_cartesian.specs.Cells.{fields, readingIn, datumIn, rowValue, weightAdded, weightsAdded, Binned, RowRoom, RowsRoom, RowsIn, Gathered, rowsWeighted, Wide, Holds, RowFits, PlaneFits, BlockFits, Near, AllNear, Ready, Placed, rowAdded, scalarOf, isMean, cellsInMean, rowInMean, planeInMean, blockInMean, offsetMean, meanState, Looked, Findable, planeAdded, blockAdded, firstA, firstB, overlapOf, offsetCells, zeroState, fresh, Room, Roomy, stateMerged, mergedIn, offsetAdded, offsetsAdded, seqFor};
 
 // For the lookups of distances, and of values in a histogram's edges.

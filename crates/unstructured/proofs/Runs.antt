@@ -20,7 +20,7 @@ use Rattle.definitions.specs.Reducer as kinds
 use Rattle.definitions.specs.Reducer.{Datum, datumOf, kindSize, pairIn, pairTerm}
 use Rattle.definitions.specs.Run as run
 use Rattle.definitions.specs.Run.{Run, used, stateAt, numberAt, pairOf, pairAt, scratch, merged}
-use Rattle.definitions.specs.Rules.{refusal, overSets, setRules, pairRules, runRules, step, met}
+use Rattle.definitions.specs.Rules.{refusal, overSets, setRules, pairRules}
 use Rattle.laws.proofs.Places.{foldPack, placewise}
 use Rattle.reducer.specs.declared.Edges.{Edges}
 use Rattle.reducer.specs.declared.Kind.{Kind}
@@ -34,16 +34,14 @@ use Rattle.edge_table.specs.Tabled.{Usable, UsableValues}
 use Rattle.edge_table.proofs.Lookup.{usable-made, usable-values-made}
 use Rattle.parallel_serial.specs.declared.Shape.{Shape}
 use Rattle.parallel_serial.specs.Drive as drive
-use Rattle.parallel_serial.specs.Drive.{zeroPack, addedScratch, builtEdges, builtReducer, runNumber, runOf}
-use Rattle.parallel_serial.proofs.Refusals.{run-number, Drivable, Accepted, accepted}
+use Rattle.parallel_serial.specs.Drive.{zeroPack, addedScratch, builtEdges, builtReducer, setsNumber, runOf, setsRun}
+use Rattle.parallel_serial.proofs.Refusals.{Drivable, Accepted, accepted}
 use Rattle.parallel_serial.proofs.Built.{built-made, reducer-made}
-use Rattle.parallel_serial.proofs.Scratch.{lent-zeros, zero-at, added-merged, run-answer, step-refused, step-done}
+use Rattle.parallel_serial.proofs.Scratch.{lent-zeros, zero-at, added-merged}
 use Rattle.unstructured_points.specs.declared.PointSet.{PointSet}
 use Rattle.unstructured_points.specs.Readings.{strideOf, pointsOf}
-use Rattle.unstructured_points.specs.Sets as sets
-use Rattle.unstructured_points.specs.Sets.{setsFor, setsNumber}
+use Rattle.unstructured_points.specs.Sets.{setsFor}
 use Rattle.parallel_serial.specs.declared.Setup.{Setup}
-use Rattle.unstructured.specs.Readings.{setsRun}
 use Rattle.unstructured.specs.Pairs.{Readable, Held, pointIn, pointsIn, pairsFor, builtPair, pairAdded, pairStep, filled}
 use Rattle.unstructured.specs.Batches.{UsableRun}
 use Rattle.unstructured.proofs.Rules.{held-sets}
@@ -172,36 +170,13 @@ from-zeros setup list valueEdges auto l m s q t u e h = h ∙ ap (λ (z : List F
 pub added-filled : (s t u q : List Float) → t ≡ u → q ≡ addedScratch s t → q ≡ addedScratch s u
 added-filled s t u q e h = h ∙ ap (addedScratch s) e
 
--- ---- the number that a run answers, and what follows where there is none
-no-pair-rules : (auto : Bool) (a b : UnstructuredPoints) → refusal (pairRules (setsFor auto a b)) ≡ 0
-no-pair-rules true a b = refl
-no-pair-rules false a b = refl
-
+-- ---- what follows where a run has no refusal
 module _ (auto : Bool) (a b : UnstructuredPoints) (edges : Edges) (list : List Float) (kind : Kind) (valueEdges : List Float) (shape : Shape) (s : List Float) (x : ℕ)
     (h : x ≡ setsNumber (setsFor auto a b) (edgesOf edges list) (kindOf kind valueEdges) shape (length s)) where
-  module _ (op : PairOperation) where
-    abbrev this : Run
-    this = setsRun (setsFor auto a b) edges list kind valueEdges op shape
-
-    own-number : x ≡ refusal (runRules this (length s))
-    unfolding sets.setsNumber setsRun
-    own-number =
-        h ∙ ap (λ (n : ℕ). runNumber (overSets (setsFor auto a b)) (refusal (setRules (setsFor auto a b))) n (edgesOf edges list) (kindOf kind valueEdges) shape (length s)) (sym (no-pair-rules auto a b))
-        ∙ run-number (setsFor auto a b) (opOf op) (edgesOf edges list) (kindOf kind valueEdges) shape (length s)
-
-    pub answer : (o : Option ℕ) → o ≡ met x → o ≡ met (refusal (runRules this (length s)))
-    answer = run-answer this s x own-number
-
-    pub stays : (x ≡ 0 → ⊥) → s ≡ step this s
-    stays n = step-refused this s x own-number n
-
-    pub done : x ≡ 0 → (q : List Float) → q ≡ merged this s → q ≡ step this s
-    done z q e = step-done this s x own-number z q e
-
   module _ (z : x ≡ 0) where
-    all : Accepted (overSets (setsFor auto a b)) (refusal (setRules (setsFor auto a b))) 0 (edgesOf edges list) (kindOf kind valueEdges) shape (length s)
-    unfolding sets.setsNumber
-    all = accepted (overSets (setsFor auto a b)) (refusal (setRules (setsFor auto a b))) 0 (edgesOf edges list) (kindOf kind valueEdges) shape (length s) (sym h ∙ z)
+    all : Accepted (overSets (setsFor auto a b)) (refusal (setRules (setsFor auto a b))) (refusal (pairRules (setsFor auto a b))) (edgesOf edges list) (kindOf kind valueEdges) shape (length s)
+    unfolding drive.setsNumber
+    all = accepted (overSets (setsFor auto a b)) (refusal (setRules (setsFor auto a b))) (refusal (pairRules (setsFor auto a b))) (edgesOf edges list) (kindOf kind valueEdges) shape (length s) (sym h ∙ z)
 
     -- what `drive` asks
     pub drivable : (same : auto ≡ true → a ≡ b) → Held a × (Held b × ((auto ≡ true → a ≡ b) × Drivable (edgesOf edges list) (kindOf kind valueEdges) shape (length s)))

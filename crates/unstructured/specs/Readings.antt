@@ -2,17 +2,12 @@
 use mathlib.Core.List.{List}
 use lib.Ieee.{Float}
 use Rattle.definitions.specs.Points.{UnstructuredPoints}
-use Rattle.definitions.specs.Run.{Sets, onePoints, twoPoints, Run}
+use Rattle.definitions.specs.Run.{onePoints, twoPoints, Run}
 use Rattle.reducer.specs.declared.PairOperation.{PairOperation}
 use Rattle.reducer.specs.declared.Edges.{Edges}
 use Rattle.reducer.specs.declared.Kind.{Kind}
-use Rattle.reducer.specs.Readings.{opOf, edgesOf, kindOf}
 use Rattle.parallel_serial.specs.declared.Shape.{Shape}
-use Rattle.parallel_serial.specs.Drive.{runOf}
-
--- a run over the sets
-unfoldable pub setsRun : Sets → Edges → List Float → Kind → List Float → PairOperation → Shape → Run
-setsRun sets edges list kind valueEdges op shape = runOf sets (opOf op) (edgesOf edges list) (kindOf kind valueEdges) shape
+use Rattle.parallel_serial.specs.Drive.{setsRun}
 
 abbrev pub autoRun : UnstructuredPoints → Edges → List Float → Kind → List Float → PairOperation → Shape → Run
 autoRun a edges list kind valueEdges op shape = setsRun (onePoints a) edges list kind valueEdges op shape

@@ -26,11 +26,11 @@ ghost use Rattle.state.specs.Readings.{numberOf};
 ghost use Rattle.bins.specs.Answers.{indexOf};
 ghost use Rattle.reducer.specs.Readings.{edgesOf, kindOf, readingOf};
 ghost use Rattle.edge_table.specs.Tabled.{Tabled, TabledValues};
-ghost use Rattle.parallel_serial.specs.Drive.{zeroPack, addedScratch};
+ghost use Rattle.parallel_serial.specs.Drive.{zeroPack, addedScratch, setsRun};
 ghost use Rattle.parallel_serial.proofs.Refusals.{Drivable};
 ghost use Rattle.unstructured_points.specs.Readings.{pointsOf, thePoint};
 ghost use Rattle.unstructured_points.specs.Sets.{setsFor};
-ghost use Rattle.unstructured.specs.Readings.{setsRun, autoRun, crossRun};
+ghost use Rattle.unstructured.specs.Readings.{autoRun, crossRun};
 ghost use Rattle.unstructured.specs.Pairs.{thePair, pointIn, pointsIn, Holds, Readable, Held, firstPartner, builtPair, pairAdded, pairStep, rowAdded, filled};
 ghost use Rattle.unstructured.specs.Batches.{UsableRun, TabledRun, Rooms, Listed, Parts, readingIn, keptBelow, picked, numberedPair, pairPlaced, pairValues, placedTo, weightsTo, valueNumbers, placesAdded};
 

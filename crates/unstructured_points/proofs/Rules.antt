@@ -10,13 +10,13 @@ use borrow.Author.Tests.{lt-ltb, le-ltb, eq-eqb, ne-eqb}
 use Rattle.definitions.specs.Bins as Bins
 use Rattle.definitions.specs.Points.{UnstructuredPoints, strideOr}
 use Rattle.definitions.specs.Reducer as Reducer
-use Rattle.definitions.specs.Rules.{refusal, overPoints, overSets, pointRules, setRules}
+use Rattle.definitions.specs.Rules.{refusal, overPoints, overSets, pointRules, setRules, pairRules}
 use Rattle.laws.proofs.Refusals.{refusal-append}
 use Rattle.parallel_serial.specs.declared.Shape.{Shape}
-use Rattle.parallel_serial.specs.Drive.{runNumber}
+use Rattle.parallel_serial.specs.Drive.{runNumber, setsNumber}
 use Rattle.unstructured_points.specs.declared.PointSet.{PointSet}
 use Rattle.unstructured_points.specs.Readings.{strideOf, pointsOf}
-use Rattle.unstructured_points.specs.Sets.{setsFor, setsNumber}
+use Rattle.unstructured_points.specs.Sets.{setsFor}
 
 module _ (set : PointSet) where
   pub over-count : 4096 < set .«n_points» → true ≡ overPoints (pointsOf set [] [] [])
@@ -101,9 +101,17 @@ module _ (auto : Bool) (a b : PointSet) (pa va wa pb vb wb : List Float) where
       go true = refl
       go false = refl
 
+  -- points have no rules on pairs
+  no-pairs : 0 ≡ refusal (pairRules (setsFor auto (pointsOf a pa va wa) (pointsOf b pb vb wb)))
+  no-pairs = go auto
+    where
+      go : (t : Bool) → 0 ≡ refusal (pairRules (setsFor t (pointsOf a pa va wa) (pointsOf b pb vb wb)))
+      go true = refl
+      go false = refl
+
   -- r and n are what calls answered
   pub by-calls : (r : Bool) (n : ℕ) (e : Bins.Edges) (k : Reducer.Kind) (shape : Shape) (len x : ℕ) → r ≡ overSets (setsFor auto (pointsOf a [] [] []) (pointsOf b [] [] []))
       → n ≡ refusal (setRules (setsFor auto (pointsOf a pa va wa) (pointsOf b pb vb wb))) → x ≡ runNumber r n 0 e k shape len
       → x ≡ setsNumber (setsFor auto (pointsOf a pa va wa) (pointsOf b pb vb wb)) e k shape len
   unfolding setsNumber
-  by-calls r n e k shape len x p q h = h ∙ (λ i. runNumber ((p ∙ over-sets) i) (q i) 0 e k shape len)
+  by-calls r n e k shape len x p q h = h ∙ (λ i. runNumber ((p ∙ over-sets) i) (q i) (no-pairs i) e k shape len)

@@ -8,8 +8,9 @@ ghost use mathlib.Core.List.{[]};
 ghost use Rattle.definitions.specs.Points.{strideOr, squaredDiffNorm};
 ghost use Rattle.definitions.specs.Rules.{refusal, overPoints, pointRules, overSets, setRules};
 ghost use Rattle.reducer.specs.Readings.{edgesOf, kindOf};
+ghost use Rattle.parallel_serial.specs.Drive.{setsNumber};
 ghost use Rattle.unstructured_points.specs.Readings.{strideOf, pointsOf, thePoint};
-ghost use Rattle.unstructured_points.specs.Sets.{setsFor, setsNumber};
+ghost use Rattle.unstructured_points.specs.Sets.{setsFor};
 
 // The stride of positions and values; left out it is the number of points.
 pub enum Stride {

@@ -1,6 +1,5 @@
 use Rattle.capi_words.proofs.Words.{said}
 use Rattle.capi.specs.Entries.{blockFrom}
-use Rattle.twopoint_cartesian.specs.Readings.{setsRun}
 use Rattle.capi.proofs.Runs.{same-runs, same-block, one-block, run-number, run-pack}
 use borrow.Author.Needs.{needs}
 use Rattle.capi.proofs.pairstat_blocks_auto.Statement.{statement}
@@ -34,7 +33,7 @@ returns : tie.Need-returns
 returns c =
     let s = c .before .before .before .before .before .before .before .before .before .before .before .before .before .before .before .before .before in
     let q = c .before .before .before .blocks-auto .ensures in
-    let same = same-runs setsRun _ _ _ _ _ _ _ _ _ _ _ _ _ (one-block _ _ _ (same-block _ (blockFrom _ _ _ _ _ _ (s .args .a-gz) (s .args .a-gy) (s .args .a-gx)) _ _ _ _ (c .before .before .before .before .before .before .before .before .before .block-from .ensures) (s .fits .a-gz) (s .fits .a-gy) (s .fits .a-gx))) (c .before .before .before .before .before .before .before .before .edges-from .ensures) (c .before .before .before .before .before .before .before .edges-from2 .ensures)
+    let same = same-runs _ _ _ _ _ _ _ _ _ _ _ _ _ (one-block _ _ _ (same-block _ (blockFrom _ _ _ _ _ _ (s .args .a-gz) (s .args .a-gy) (s .args .a-gx)) _ _ _ _ (c .before .before .before .before .before .before .before .before .before .block-from .ensures) (s .fits .a-gz) (s .fits .a-gy) (s .fits .a-gx))) (c .before .before .before .before .before .before .before .before .edges-from .ensures) (c .before .before .before .before .before .before .before .edges-from2 .ensures)
     (c .before .before .before .before .before .before .kind-from .ensures) (c .before .before .before .before .before .op-from .ensures) in
     (run-number _ _ same _ _ (said _ _ _ (c .number-from .ensures) (q .0)), run-pack _ _ same _ _ (q .1))
 

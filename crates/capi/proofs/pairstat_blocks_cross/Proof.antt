@@ -1,6 +1,5 @@
 use Rattle.capi_words.proofs.Words.{said}
 use Rattle.capi.specs.Entries.{blockFrom}
-use Rattle.twopoint_cartesian.specs.Readings.{setsRun}
 use Rattle.capi.proofs.Runs.{same-runs, same-block, two-blocks, run-number, run-pack}
 use borrow.Author.Needs.{needs}
 use Rattle.capi.proofs.pairstat_blocks_cross.Statement.{statement}
@@ -39,7 +38,7 @@ returns c =
     let q = c .before .before .before .blocks-cross .ensures in
     let a = same-block _ (blockFrom _ _ _ _ _ _ (s .args .a-gz) (s .args .a-gy) (s .args .a-gx)) _ _ _ _ (c .before .before .before .before .before .before .before .before .before .before .block-from .ensures) (s .fits .a-gz) (s .fits .a-gy) (s .fits .a-gx) in
     let b = same-block _ (blockFrom _ _ _ _ _ _ (s .args .b-gz) (s .args .b-gy) (s .args .b-gx)) _ _ _ _ (c .before .before .before .before .before .before .before .before .before .block-from2 .ensures) (s .fits .b-gz) (s .fits .b-gy) (s .fits .b-gx) in
-    let same = same-runs setsRun _ _ _ _ _ _ _ _ _ _ _ _ _ (two-blocks _ _ _ _ _ a b) (c .before .before .before .before .before .before .before .before .edges-from .ensures) (c .before .before .before .before .before .before .before .edges-from2 .ensures)
+    let same = same-runs _ _ _ _ _ _ _ _ _ _ _ _ _ (two-blocks _ _ _ _ _ a b) (c .before .before .before .before .before .before .before .before .edges-from .ensures) (c .before .before .before .before .before .before .before .edges-from2 .ensures)
     (c .before .before .before .before .before .before .kind-from .ensures) (c .before .before .before .before .before .op-from .ensures) in
     (run-number _ _ same _ _ (said _ _ _ (c .number-from .ensures) (q .0)), run-pack _ _ same _ _ (q .1))
 

@@ -1,7 +1,6 @@
 use Rattle.capi_words.proofs.Words.{said}
 use mathlib.Core.Path.{ap}
 use Rattle.definitions.specs.Run.{onePoints}
-use Rattle.unstructured.specs.Readings.{setsRun}
 use Rattle.capi.proofs.Runs.{same-runs, same-set, run-number, run-pack}
 use borrow.Author.Needs.{needs}
 use Rattle.capi.proofs.pairstat_points_auto.Statement.{statement}
@@ -34,7 +33,7 @@ same-length c = search needs
 returns : tie.Need-returns
 returns c =
     let q = c .before .before .before .points-auto .ensures in
-    let same = same-runs setsRun _ _ _ _ _ _ _ _ _ _ _ _ _ (ap onePoints (same-set _ _ _ _ _ _ _ (c .before .before .before .before .before .before .before .before .before .stride-from .ensures))) (c .before .before .before .before .before .before .before .before .edges-from .ensures) (c .before .before .before .before .before .before .before .edges-from2 .ensures)
+    let same = same-runs _ _ _ _ _ _ _ _ _ _ _ _ _ (ap onePoints (same-set _ _ _ _ _ _ _ (c .before .before .before .before .before .before .before .before .before .stride-from .ensures))) (c .before .before .before .before .before .before .before .before .edges-from .ensures) (c .before .before .before .before .before .before .before .edges-from2 .ensures)
     (c .before .before .before .before .before .before .kind-from .ensures) (c .before .before .before .before .before .op-from .ensures) in
     (run-number _ _ same _ _ (said _ _ _ (c .number-from .ensures) (q .0)), run-pack _ _ same _ _ (q .1))
 

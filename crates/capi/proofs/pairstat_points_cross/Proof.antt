@@ -1,6 +1,5 @@
 use Rattle.capi_words.proofs.Words.{said}
 use Rattle.definitions.specs.Run.{twoPoints}
-use Rattle.unstructured.specs.Readings.{setsRun}
 use Rattle.capi.proofs.Runs.{same-runs, same-set, run-number, run-pack}
 use borrow.Author.Needs.{needs}
 use Rattle.capi.proofs.pairstat_points_cross.Statement.{statement}
@@ -38,7 +37,7 @@ returns c =
     let q = c .before .before .before .points-cross .ensures in
     let a = same-set _ _ _ _ _ _ _ (c .before .before .before .before .before .before .before .before .before .before .stride-from .ensures) in
     let b = same-set _ _ _ _ _ _ _ (c .before .before .before .before .before .before .before .before .before .stride-from2 .ensures) in
-    let same = same-runs setsRun _ _ _ _ _ _ _ _ _ _ _ _ _ (λ i. twoPoints (a i) (b i)) (c .before .before .before .before .before .before .before .before .edges-from .ensures) (c .before .before .before .before .before .before .before .edges-from2 .ensures)
+    let same = same-runs _ _ _ _ _ _ _ _ _ _ _ _ _ (λ i. twoPoints (a i) (b i)) (c .before .before .before .before .before .before .before .before .edges-from .ensures) (c .before .before .before .before .before .before .before .edges-from2 .ensures)
     (c .before .before .before .before .before .before .kind-from .ensures) (c .before .before .before .before .before .op-from .ensures) in
     (run-number _ _ same _ _ (said _ _ _ (c .number-from .ensures) (q .0)), run-pack _ _ same _ _ (q .1))
 

@@ -1,7 +1,8 @@
 use mathlib.Core.Path.{_∙_, ap}
 use mathlib.Core.Logic.{⊎-elim}
 use lib.ListN.{length}
-use Rattle.twopoint_cartesian.proofs.Runs.{answer, stays, done, drivable, ready-first, ready-second}
+use Rattle.parallel_serial.proofs.Refusals.{answer, stays, done}
+use Rattle.twopoint_cartesian.proofs.Runs.{drivable, ready-first, ready-second}
 use borrow.Author.Needs.{needs}
 use Rattle.twopoint_cartesian.proofs.run.Statement.{statement}
 use Rattle.twopoint_cartesian.proofs.run.Tie as tie

@@ -3,7 +3,8 @@ use mathlib.Core.Bool.{true}
 use mathlib.Core.Logic.{⊎-elim}
 use lib.ListN.{length}
 use Rattle.unstructured_points.specs.Readings.{pointsOf}
-use Rattle.unstructured.proofs.Runs.{answer, stays, done, drivable}
+use Rattle.parallel_serial.proofs.Refusals.{answer, stays, done}
+use Rattle.unstructured.proofs.Runs.{drivable}
 use borrow.Author.Needs.{needs}
 use Rattle.unstructured.proofs.points_auto.Statement.{statement}
 use Rattle.unstructured.proofs.points_auto.Tie as tie
@@ -37,11 +38,10 @@ same-length c =
 -- src/lib.rt:1342:1
 returns : tie.Need-returns
 returns c =
-    let x = c .before .before .before .before .before .before .before .before .before .args in
-    let p = pointsOf (x .set) (x .positions .now) (x .values .now) (x .weights .now) in
+    let s = c .before .before .before .before .before .before .before .before .before .args .pack .now in
     let h = c .before .before .run-refusal .ensures in (
-      answer true p p (x .edges) (x .list .now) (x .kind) (x .value-edges .now) (x .shape) (x .pack .now) _ h (x .op) _ (c .outcome-of .ensures),
-      ⊎-elim (λ w. done true p p (x .edges) (x .list .now) (x .kind) (x .value-edges .now) (x .shape) (x .pack .now) _ h (x .op) (w .0 .taken) _ (w .5 ∙ w .2 .ensures)) (λ w. w .1 ∙ stays true p p (x .edges) (x .list .now) (x .kind) (x .value-edges .now) (x .shape) (x .pack .now) _ h (x .op) (w .0 .left)) (c .before .if1 .came),
+      answer _ _ _ _ _ _ _ s _ h _ (c .outcome-of .ensures),
+      ⊎-elim (λ w. done _ _ _ _ _ _ _ s _ h (w .0 .taken) _ (w .5 ∙ w .2 .ensures)) (λ w. w .1 ∙ stays _ _ _ _ _ _ _ s _ h (w .0 .left)) (c .before .if1 .came),
     )
 
 pub points-auto-spec : {M : Type 1} → statement M
