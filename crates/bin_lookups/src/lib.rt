@@ -1,4 +1,6 @@
 // Edges looked over, and a value's bin in them.
+#![tactic(auto)]
+
 ghost use Rattle.std.specs.Prelude.{◌≡◌, T, length};
 ghost use Rattle.std.proofs.Math.Option.{none, some};
 ghost use Rattle.definitions.specs.Bins.{regular, irregular, last_edge, irregular_index, find};
@@ -10,7 +12,7 @@ use bins::{BinIndex, RegularBinEdges, RegularNew};
 use edge_validation::Validated;
 
 // The bin of a value, if it has one, or the number of the refusal.
-#[derive(Drop)]
+#[derive(Clone, Copy)]
 pub enum Lookup {
     At(usize),
     None,

@@ -1,4 +1,6 @@
 // Bin edges and the lookup of a value's bin.
+#![tactic(auto)]
+
 ghost use Rattle.std.specs.Prelude.{◌≡◌, ◌||◌, ◌-◌, length};
 ghost use Rattle.std.proofs.Math.Option.{none, some};
 ghost use Rattle.std.specs.Float.Ieee.{lt, le, is_nan};
@@ -10,7 +12,7 @@ ghost use Rattle.bins.specs.Answers.{regular_of, new_number, new_edges, index_of
 pub const MAX_BINS: usize = 256;
 
 // Regular bins with uniform spacing.
-#[derive(Drop)]
+#[derive(Clone, Copy)]
 pub struct RegularBinEdges {
     pub min: f64,
     pub max: f64,
@@ -19,14 +21,14 @@ pub struct RegularBinEdges {
 }
 
 // The edges, or the number of the refusal.
-#[derive(Drop)]
+#[derive(Clone, Copy)]
 pub enum RegularNew {
     Made(RegularBinEdges),
     Refused(u32),
 }
 
 // The bin of a value, if it has one.
-#[derive(Drop)]
+#[derive(Clone, Copy)]
 pub enum BinIndex {
     At(usize),
     None,

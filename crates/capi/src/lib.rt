@@ -1,4 +1,6 @@
 // The library's operations for C: numbers and slices alone, a slice as a pointer and a length. Nothing is asked of a caller but live slices.
+#![tactic(auto)]
+
 ghost use Rattle.std.specs.Prelude.{◌≡◌, ◌*◌, length};
 ghost use Rattle.std.proofs.Math.Option.{none, some};
 ghost use Rattle.definitions.specs.Bins.{regular, irregular, find};

@@ -1,4 +1,6 @@
 // What the numbers of a flat call stand for, and answers as numbers and words.
+#![tactic(auto)]
+
 ghost use Rattle.std.specs.Prelude.{◌≡◌, [], ◌∷◌};
 ghost use Rattle.bin_lookups.specs.Answers.{lookup_number, lookup_result};
 ghost use Rattle.misc.specs.Segment.{segment_number, segment_bounds};

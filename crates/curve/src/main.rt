@@ -1,4 +1,6 @@
 // Prints the curve of points.rec and edges.rec, or `refused ` and a number.
+#![tactic(auto)]
+
 use libc::STDOUT_FILENO;
 
 fn main() {

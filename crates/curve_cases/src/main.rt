@@ -1,4 +1,6 @@
 // What `curve` prints of other files: refusals in their order, odd numbers, and the largest survey.
+#![tactic(auto)]
+
 use libc::STDOUT_FILENO;
 
 // The files' names, then what is printed of them.

@@ -1,4 +1,6 @@
 // The text of a curve in ASCII, put into a slice.
+#![tactic(auto)]
+
 ghost use Rattle.std.specs.Prelude.{◌≡◌, ◌+◌, ◌*◌, ◌<◌, ◌≤◌, length};
 ghost use Rattle.definitions.specs.Records.{hex_digit};
 ghost use Rattle.record_bytes.specs.Stores.{stored};

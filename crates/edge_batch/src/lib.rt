@@ -1,4 +1,6 @@
 // Lookups of a batch of values: a first loop takes guesses and hints that comparisons show right, and marks the rest; a second loop finds what is marked.
+#![tactic(auto)]
+
 ghost use Rattle.std.specs.Prelude.{◌≡◌, map, ◌<◌, length};
 ghost use Rattle.bins.specs.Answers.{index_of};
 ghost use Rattle.edge_table.specs.Table.{place_of, sure_at};

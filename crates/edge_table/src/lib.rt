@@ -1,4 +1,6 @@
 // Lookups in edges by a table: of one value by a search by quarters, of many by hints that are made once. A guess is tested, so nothing rests on it.
+#![tactic(auto)]
+
 ghost use Rattle.std.specs.Prelude.{◌≡◌, ◌+◌, ◌-◌, ◌*◌, ◌≤◌, ◌<◌, length};
 ghost use Rattle.definitions.specs.Lists.{at};
 ghost use Rattle.floats.specs.Order.{order_key};
@@ -9,7 +11,7 @@ use bins::BinIndex;
 use reducer::{BuiltEdges, Reducer};
 
 // Ends of the edges; a value's place of hints is scale times it plus offset.
-#[derive(Drop)]
+#[derive(Clone, Copy)]
 pub struct Table {
     pub first: f64,
     pub last: f64,

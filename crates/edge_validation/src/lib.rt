@@ -1,4 +1,6 @@
 // Whether a slice is irregular edges.
+#![tactic(auto)]
+
 ghost use Rattle.std.specs.Prelude.{◌≡◌, true, false, ◌≤◌, T, length};
 ghost use Rattle.definitions.specs.Bins.{irregular};
 ghost use Rattle.definitions.specs.Rules.{refusal, if_accepted, edges_call_rules, all_finite, increasing};
@@ -7,7 +9,7 @@ ghost use Rattle.edge_validation.specs.Answers.{valid_number, valid_accepted};
 use bins::MAX_BINS;
 
 // Nothing is wrong with the edges, or the number of the refusal.
-#[derive(Drop)]
+#[derive(Clone, Copy)]
 pub enum Validated {
     Accepted,
     Refused(u32),

@@ -1,4 +1,6 @@
 // What Rust's f64 has beyond IEEE 754's operations, for every f64.
+#![tactic(auto)]
+
 ghost use Rattle.std.specs.Prelude.{◌≡◌, from_bits, is_nan, to_bits};
 ghost use Rattle.std.specs.Float.{binary64};
 ghost use Rattle.std.specs.Float.Ieee.Scale.{finite};

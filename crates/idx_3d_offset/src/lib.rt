@@ -1,4 +1,6 @@
 // The walk over the offsets between the cells of two blocks, and the cells of an axis that take part at an offset (idx_3d_offset.rs).
+#![tactic(auto)]
+
 ghost use Rattle.std.specs.Prelude.{◌≡◌, ◌-◌, min, length, nat_abs};
 ghost use Rattle.std.proofs.Math.ListN.{get_elem?};
 ghost use Rattle.std.proofs.Math.IntN.{sub_ℕ};
@@ -6,11 +8,11 @@ ghost use Rattle.definitions.specs.Blocks.{start_a, start_b, count as count_of};
 ghost use Rattle.idx_3d_offset.specs.Offsets.{idx_of, offset_of, axis_fits, walkable, Axis, Walkable, Counts, cross_seq, auto_seq, axis_len, offset_number};
 
 // An offset between cells, in z, y, x order; never a cell's own index, and never a position in the sequence.
-#[derive(Drop)]
+#[derive(Clone, Copy)]
 pub struct Idx3DOffset(pub i64, pub i64, pub i64);
 
 // The lengths of a block's axes.
-#[derive(Drop)]
+#[derive(Clone, Copy)]
 pub struct Axes {
     pub z: usize,
     pub y: usize,
@@ -18,7 +20,7 @@ pub struct Axes {
 }
 
 // What stands at a position of a sequence of offsets.
-#[derive(Drop)]
+#[derive(Clone, Copy)]
 pub enum Offset {
     At(Idx3DOffset),
     End,

@@ -1,4 +1,6 @@
 // Index arithmetic.
+#![tactic(auto)]
+
 ghost use Rattle.std.specs.Prelude.{◌≡◌, ◌<◌, ◌≤◌};
 ghost use Rattle.std.proofs.Math.Option.{none, some};
 ghost use Rattle.definitions.specs.Rules.{refusal, if_accepted, segment_rules};
@@ -6,7 +8,7 @@ ghost use Rattle.definitions.specs.Segments.{segment_start, segment_stop};
 ghost use Rattle.misc.specs.Segment.{segment_number, segment_bounds};
 
 // Where a segment starts and stops, or the number of the refusal.
-#[derive(Drop)]
+#[derive(Clone, Copy)]
 pub enum Segment {
     Bounds(usize, usize),
     Refused(u32),

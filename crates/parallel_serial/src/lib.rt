@@ -1,4 +1,6 @@
 // What the runs share of drive_reduce: the shape, what is built of edges and kinds, the scratch pack and its addition to the caller's.
+#![tactic(auto)]
+
 ghost use Rattle.std.specs.Prelude.{◌≡◌, ◌+◌, ◌-◌, ◌<◌, ◌≤◌, length, take};
 ghost use Rattle.std.specs.Float.{binary64};
 ghost use Rattle.std.specs.Float.Ieee.{add};
@@ -12,7 +14,7 @@ use reducer::{BuiltEdges, Edges, Kind, PairOperation, Reducer};
 use state::Outcome;
 
 // The pack's shape as the caller states it, and the team.
-#[derive(Drop)]
+#[derive(Clone, Copy)]
 pub struct Shape {
     pub n_states: usize,
     pub state_size: usize,
@@ -21,7 +23,7 @@ pub struct Shape {
 }
 
 // What is the same for each pair of a run.
-#[derive(Drop)]
+#[derive(Clone, Copy)]
 pub struct Setup {
     pub op: PairOperation,
     pub edges: BuiltEdges,

@@ -1,4 +1,6 @@
 // Record files as bytes: little-endian numbers, points and edges out of records, and a curve into them.
+#![tactic(auto)]
+
 ghost use Rattle.std.specs.Prelude.{◌≡◌, ◌+◌, ◌*◌, ◌^◌, ◌<◌, ◌≤◌, length, get_or};
 ghost use Rattle.definitions.specs.Records.{little_endian, float_at};
 ghost use Rattle.record_bytes.specs.Stores.{stored};

@@ -1,10 +1,12 @@
 // Record files by name: what the program prints of two of them.
+#![tactic(auto)]
+
 ghost use Rattle.std.specs.Prelude.{◌≤◌};
 ghost use Rattle.io.specs.Counts.{IsPrefixLen};
 ghost use Rattle.record_files.specs.Answers.{TextOf};
 
 // How many bytes of a buffer a file filled, and whether it could be read.
-#[derive(Drop)]
+#[derive(Clone, Copy)]
 struct Filled {
     read: bool,
     n: usize,

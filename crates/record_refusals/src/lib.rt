@@ -1,4 +1,6 @@
 // What a curve of record files is refused for: 7; 27; the points' rules; the edges' rules.
+#![tactic(auto)]
+
 ghost use Rattle.std.specs.Prelude.{◌≡◌, ◌≤◌, length};
 ghost use Rattle.definitions.specs.Rules.{refusal, irregular_rules};
 ghost use Rattle.definitions.specs.Records.{record_edges};

@@ -1,4 +1,6 @@
 // Record files: the curve of points and edges as bytes, and its text.
+#![tactic(auto)]
+
 ghost use Rattle.std.specs.Prelude.{◌≡◌, false, ◌-◌, ◌*◌, ◌/◌, ◌≤◌, length, replicate};
 ghost use Rattle.definitions.specs.Floats.{zero_f};
 ghost use Rattle.definitions.specs.Rules.{refusal};

@@ -1,4 +1,6 @@
 // Kinds of reduction, a pair's datum, and what it adds to a state of a pack.
+#![tactic(auto)]
+
 ghost use Rattle.std.specs.Prelude.{◌≡◌, ◌*◌, ◌<◌, ◌≤◌, length};
 ghost use Rattle.definitions.specs.Bins.{below};
 ghost use Rattle.definitions.specs.Reducer.{datum_of, component_sum};
@@ -10,21 +12,21 @@ ghost use Rattle.reducer.specs.Consume.{built_bins, built_find, built_bin, reduc
 
 use bins::{BinIndex, RegularBinEdges};
 
-#[derive(Drop)]
+#[derive(Clone, Copy)]
 pub enum PairOperation {
     ElementwiseMultiply,
     ElementwiseSub,
 }
 
 // Edges as the caller states them: minimum, maximum and number of bins, or a slice beside.
-#[derive(Drop)]
+#[derive(Clone, Copy)]
 pub enum Edges {
     Regular(f64, f64, usize),
     Irregular,
 }
 
 // A histogram has value edges.
-#[derive(Drop)]
+#[derive(Clone, Copy)]
 pub enum Kind {
     Comp0Mean,
     ComponentSumMean,
@@ -32,13 +34,13 @@ pub enum Kind {
 }
 
 // Edges built once and passed to each lookup.
-#[derive(Drop)]
+#[derive(Clone, Copy)]
 pub enum BuiltEdges {
     Regular(RegularBinEdges),
     Irregular,
 }
 
-#[derive(Drop)]
+#[derive(Clone, Copy)]
 pub enum Reducer {
     Comp0Mean,
     ComponentSumMean,
@@ -46,7 +48,7 @@ pub enum Reducer {
 }
 
 // Three component values and a weight: a pair's, or what is read of a point or a cell.
-#[derive(Drop)]
+#[derive(Clone, Copy)]
 pub struct Datum {
     pub c0: f64,
     pub c1: f64,

@@ -5,7 +5,7 @@ use misc::Segment;
 use state::{Outcome, StateKind};
 
 // The three words that say what a lookup or a segment's call answered.
-#[derive(Drop)]
+#[derive(Clone, Copy)]
 pub struct Answer {
     pub number: u64,
     pub first: u64,
@@ -86,7 +86,7 @@ fn kind_at(words: &[u64]) -> StateKind {
 }
 
 // Where the slice that a call may write stands, and its answer: a number, then the slice after.
-#[derive(Drop)]
+#[derive(Clone, Copy)]
 pub struct Lent {
     pub start: usize,
     pub n: usize,

@@ -1,4 +1,6 @@
 // Makes each call of the fixed lists that the Rust answered, and counts the answers that differ (oracle/README.md has the lists' form).
+#![tactic(auto)]
+
 ghost use Rattle.std.specs.Prelude.{◌≡◌, ◌≤◌, length};
 
 mod cases;
@@ -13,7 +15,7 @@ const MOST_CALLS: u64 = 100_000;
 const MOST_WORDS: u64 = 8192;
 
 // A record's two first words: its operation, and how many words follow. A list ends where they are missing.
-#[derive(Drop)]
+#[derive(Clone, Copy)]
 pub struct Head {
     pub op: u64,
     pub n: u64,
@@ -21,7 +23,7 @@ pub struct Head {
 }
 
 // Whether the list is at its end, and how many answers differed: none or one.
-#[derive(Drop)]
+#[derive(Clone, Copy)]
 pub struct Step {
     pub ended: bool,
     pub differ: u64,

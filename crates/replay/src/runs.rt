@@ -8,7 +8,7 @@ use state::Outcome;
 use unstructured_points::{PointSet, Stride};
 
 // Where the columns of a set (positions, values, weights) or of a block (three components, weights) stand, one after the other.
-#[derive(Drop)]
+#[derive(Clone, Copy)]
 pub struct Columns {
     pub first: usize,
     pub second: usize,
@@ -39,7 +39,7 @@ fn columns_at(words: &[u64], at: usize, head: usize, n: usize) -> Columns {
 }
 
 // Edges stand as 0 min max n, or as 1 len edges..
-#[derive(Drop)]
+#[derive(Clone, Copy)]
 pub struct EdgesPart {
     pub at: usize,
     pub list: usize,
@@ -69,7 +69,7 @@ fn value_part(words: &[u64], at: usize) -> EdgesPart {
 }
 
 // The parts of a run's record.
-#[derive(Drop)]
+#[derive(Clone, Copy)]
 pub struct Parts {
     pub a: Columns,
     pub b: Columns,

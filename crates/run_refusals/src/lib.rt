@@ -1,4 +1,6 @@
 // The refusals of a run, by its edges, its kind and its shape, and by what its points or blocks say of themselves.
+#![tactic(auto)]
+
 ghost use Rattle.std.specs.Prelude.{◌≡◌, ◌∷◌, not, ◌&&◌, ◌*◌, ◌≤◌, leb, eqb};
 ghost use Rattle.definitions.specs.Bins.{bins};
 ghost use Rattle.definitions.specs.Reducer.{state_kind, kind_size};

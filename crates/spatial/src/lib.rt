@@ -1,4 +1,6 @@
 // A Cartesian block, the widths of its cells, and the refusals of a run over blocks (spatial.rs).
+#![tactic(auto)]
+
 ghost use Rattle.std.specs.Prelude.{◌≡◌, false, [], ◌≤◌};
 ghost use Rattle.definitions.specs.Blocks.{required_length};
 ghost use Rattle.definitions.specs.Rules.{refusal, outside as outside_of, over_block, block_rules, width_rules, precedes as precedes_of, over_sets, set_rules, pair_rules};
@@ -11,7 +13,7 @@ use parallel_serial::Shape;
 use reducer::{Edges, Kind};
 
 // Axes, strides and global offsets in the order z, y, x.
-#[derive(Drop)]
+#[derive(Clone, Copy)]
 pub struct Block {
     pub nz: usize,
     pub ny: usize,
@@ -24,7 +26,7 @@ pub struct Block {
     pub gx: i64,
 }
 
-#[derive(Drop)]
+#[derive(Clone, Copy)]
 pub struct CellWidth {
     pub z: f64,
     pub y: f64,

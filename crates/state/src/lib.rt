@@ -1,4 +1,6 @@
 // The state pack: reset, merge, consolidation and result. Number e of state s is at e times (number of states) plus s.
+#![tactic(auto)]
+
 ghost use Rattle.std.specs.Prelude.{◌≡◌, ◌+◌, ◌*◌, ◌<◌, ◌≤◌, length};
 ghost use Rattle.std.specs.Float.{binary64};
 ghost use Rattle.std.specs.Float.Ieee.{add};
@@ -15,7 +17,7 @@ use state_view::StateNumber;
 pub type StateKind = state_refusals::StateKind;
 
 // Done, or the number of the refusal.
-#[derive(Drop)]
+#[derive(Clone, Copy)]
 pub enum Outcome {
     Done,
     Refused(u32),

@@ -1,11 +1,13 @@
 // The refusals of the pack operations, by the kind, the stated numbers and the lengths of the slices.
+#![tactic(auto)]
+
 ghost use Rattle.std.specs.Prelude.{◌≡◌, [], ◌∷◌, not, ◌||◌, ◌*◌, ltb, eqb};
 ghost use Rattle.definitions.specs.Reducer.{state_size};
 ghost use Rattle.definitions.specs.Rules.{rule, refusal, over_state, over_pack, no_bins, bad_shape, reset_rules, merge_rules, consolidate_rules, result_rules};
 ghost use Rattle.state_refusals.specs.Readings.{state_kind_of};
 
 // A mean, or a histogram by its count of value bins.
-#[derive(Drop)]
+#[derive(Clone, Copy)]
 pub enum StateKind {
     Mean,
     Histogram(usize),

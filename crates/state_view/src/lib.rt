@@ -1,9 +1,11 @@
 // One state of a pack seen through its length and stride.
+#![tactic(auto)]
+
 ghost use Rattle.std.specs.Prelude.{◌≡◌};
 ghost use Rattle.state_view.specs.View.{reading_of, seen};
 
 // Number e of the state is e strides past the slice's first number.
-#[derive(Drop)]
+#[derive(Clone, Copy)]
 pub struct AccumStateView<'a> {
     pub data: &'a [f64],
     pub len: usize,
@@ -11,7 +13,7 @@ pub struct AccumStateView<'a> {
 }
 
 // What a reading finds: a number, or that the state or the slice has none there.
-#[derive(Drop)]
+#[derive(Clone, Copy)]
 pub enum StateNumber {
     At(f64),
     Outside,

@@ -1,4 +1,6 @@
 // Two-point runs over the cells of Cartesian blocks (twopoint_cartesian.rs).
+#![tactic(auto)]
+
 ghost use Rattle.std.specs.Prelude.{◌≡◌, true, cond, [], ◌+◌, ◌*◌, ◌<◌, ◌≤◌, length, take};
 ghost use Rattle.std.proofs.Math.Option.{some};
 ghost use Rattle.std.proofs.Math.ListN.{get_elem?};
@@ -29,7 +31,7 @@ use spatial::{Block, CellWidth};
 use state::Outcome;
 
 // For the lookups of distances, and of values in a histogram's edges.
-#[derive(Drop)]
+#[derive(Clone, Copy)]
 struct Tables {
     distances: Table,
     edges: BuiltEdges,
@@ -37,7 +39,7 @@ struct Tables {
 }
 
 // The two numbers of a mean's state.
-#[derive(Drop)]
+#[derive(Clone, Copy)]
 struct Mean {
     total: f64,
     weight: f64,

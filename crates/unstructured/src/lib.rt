@@ -1,4 +1,6 @@
 // Two-point runs over unstructured points.
+#![tactic(auto)]
+
 ghost use Rattle.std.specs.Prelude.{◌≡◌, true, ℕ, ◌+◌, ◌-◌, ◌<◌, ◌≤◌, length, get_or, take};
 ghost use Rattle.std.proofs.Math.Option.{some};
 ghost use Rattle.std.specs.Float.{nan};
@@ -26,14 +28,14 @@ use state::Outcome;
 use unstructured_points::{Point, PointSet};
 
 // What a pair yields: a bin, three component values and a weight, or nothing.
-#[derive(Drop)]
+#[derive(Clone, Copy)]
 pub enum Pair {
     Kept(usize, f64, f64, f64, f64),
     Dropped,
 }
 
 // Ends of the distance edges and of the value edges, and where their hints are.
-#[derive(Drop)]
+#[derive(Clone, Copy)]
 struct Tables {
     edges: Table,
     values: Table,

@@ -1,4 +1,6 @@
 // Sets of unstructured points: their stride, their refusals before a run, the distance of two points.
+#![tactic(auto)]
+
 ghost use Rattle.std.specs.Prelude.{◌≡◌, []};
 ghost use Rattle.definitions.specs.Points.{stride_or, squared_diff_norm};
 ghost use Rattle.definitions.specs.Rules.{refusal, over_points, point_rules, over_sets, set_rules};
@@ -11,19 +13,19 @@ use parallel_serial::Shape;
 use reducer::{Datum, Edges, Kind};
 
 // The stride of positions and values; left out it is the number of points.
-#[derive(Drop)]
+#[derive(Clone, Copy)]
 pub enum Stride {
     Given(usize),
     Omitted,
 }
 
-#[derive(Drop)]
+#[derive(Clone, Copy)]
 pub struct PointSet {
     pub n_points: usize,
     pub stride: Stride,
 }
 
-#[derive(Drop)]
+#[derive(Clone, Copy)]
 pub struct Point {
     pub c0: f64,
     pub c1: f64,
