@@ -1,0 +1,6 @@
+use Rattle.capi_words.proofs.Words.{segment_written}
+use borrow.Author.Rules.{rules}
+use Rattle.capi.proofs.pairstat_segment_idx_bounds.Goals as goal
+
+pub returns : goal.returns
+returns c = search segment_written

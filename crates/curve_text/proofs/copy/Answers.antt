@@ -1,0 +1,17 @@
+use mathlib.Core.Path.{◌≡◌, refl}
+use Prim.Native.Nat.{◌-◌, ◌≤◌}
+use native.Mathlib.Omega.{arith}
+use lib.ListN.{length, take, length-set}
+use borrow.Author.Rules.{rules}
+use Rattle.record_bytes.specs.Stores.{stored}
+use Rattle.curve_text.proofs.Lines.{copy_none, copy_turn, copy_done}
+use Rattle.curve_text.proofs.copy.Goals as goal
+
+pub loop-i-init : goal.loop-i-init
+loop-i-init c = (omega arith, refl, search copy_none)
+
+pub loop-i-preserved : goal.loop-i-preserved
+loop-i-preserved c = (omega arith, simp length-set (omega arith), search copy_turn)
+
+pub returns : goal.returns
+returns c = search copy_done

@@ -1,0 +1,6 @@
+use Rattle.curve_text.proofs.Lines.{bits_then_law}
+use borrow.Author.Rules.{rules}
+use Rattle.curve_text.proofs.put_bits.Goals as goal
+
+pub returns : goal.returns
+returns c = search bits_then_law

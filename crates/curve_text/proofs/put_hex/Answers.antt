@@ -1,0 +1,18 @@
+use mathlib.Core.Path.{◌≡◌, refl}
+use Prim.Native.Nat.{◌≤◌}
+use native.Mathlib.Omega.{arith}
+use lib.ListN.{length, length-set}
+use borrow.Author.Rules.{rules}
+use Rattle.record_bytes.specs.Stores.{stored}
+use Rattle.curve_text.specs.Text.{hex_text}
+use Rattle.curve_text.proofs.Lines.{hex_turn, hex_done}
+use Rattle.curve_text.proofs.put_hex.Goals as goal
+
+pub loop-i-init : goal.loop-i-init
+loop-i-init c = (omega arith, refl, refl)
+
+pub loop-i-preserved : goal.loop-i-preserved
+loop-i-preserved c = (omega arith, simp length-set (omega arith), search hex_turn)
+
+pub returns : goal.returns
+returns c = search hex_done

@@ -1,0 +1,6 @@
+use Rattle.edge_table.proofs.Ways.{hinted_is}
+use borrow.Author.Rules.{rules}
+use Rattle.edge_table.proofs.hint_bin.Goals as goal
+
+pub returns : goal.returns
+returns c = search hinted_is

@@ -1,0 +1,16 @@
+use mathlib.Core.Path.{◌≡◌, refl}
+use Prim.Native.Nat.{◌-◌, ◌≤◌}
+use lib.ListN.{length}
+use borrow.Author.Rules.{rules}
+use Rattle.edge_table.specs.Table.{hints_of}
+use Rattle.edge_table.proofs.Ways.{hints_none, hints_next, hints_done}
+use Rattle.edge_table.proofs.hint_bins.Goals as goal
+
+pub loop-b-init : goal.loop-b-init
+loop-b-init c = (search rules, refl, search hints_none)
+
+pub loop-b-preserved : goal.loop-b-preserved
+loop-b-preserved c = (search rules, search rules, search (hints_next, c.hint_bin.ensures, c.loop-b.invariant.2))
+
+pub returns : goal.returns
+returns c = search hints_done

@@ -1,0 +1,14 @@
+use mathlib.Core.Path.{◌≡◌, refl}
+use Prim.Native.Nat.{◌-◌, ◌≤◌}
+use native.Mathlib.Omega.{arith}
+use lib.ListN.{length}
+use borrow.Author.Rules.{rules}
+use Rattle.edge_table.specs.Table.{spread}
+use Rattle.edge_table.proofs.Ways.{spread_none, spread_next, spread_done}
+use Rattle.edge_table.proofs.spread_hint.Given as goal
+
+abbrev pub invariant-loop-i : goal.invariant-loop-i
+invariant-loop-i l = (l.p ≤ l.i) × (l.i - l.p ≤ l.end - l.p) × (length l.hints ≡ length l.initial.hints) × (l.hints ≡ spread l.p l.b (l.i - l.p) l.initial.hints)
+
+abbrev pub decreases-loop-i : goal.decreases-loop-i
+decreases-loop-i l = l.end - l.i

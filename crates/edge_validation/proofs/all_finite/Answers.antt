@@ -1,0 +1,17 @@
+use mathlib.Core.Path.{◌≡◌}
+use Prim.Native.Nat.{◌≤◌, ◌-◌}
+use native.Mathlib.Omega.{arith}
+use lib.ListN.{length, drop}
+use borrow.Author.Rules.{rules}
+use Rattle.definitions.specs.Rules.{all_finite}
+use Rattle.edge_validation.proofs.Validation.{finite_again, finite_stop, finite_done}
+use Rattle.edge_validation.proofs.all_finite.Goals as goal
+
+pub loop-i-preserved : goal.loop-i-preserved
+loop-i-preserved c = (omega arith, search finite_again)
+
+pub returns-else-is_finite : goal.returns-else-is_finite
+returns-else-is_finite c = search finite_stop
+
+pub returns : goal.returns
+returns c = search finite_done

@@ -1,0 +1,9 @@
+use Rattle.floats.proofs.Patterns.{bits_nan}
+use Rattle.std.proofs.Common.{sym, ◌∙◌, rules}
+use Rattle.floats.proofs.to_bits.Goals as goal
+
+pub returns-then-is_nan : goal.returns-then-is_nan
+returns-then-is_nan c = search bits_nan
+
+pub float_to_bits-result : goal.float_to_bits-result
+float_to_bits-result c = rw (sym c.is_nan.ensures ∙ c.if-is_nan.false) tt

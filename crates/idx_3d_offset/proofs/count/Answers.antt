@@ -1,0 +1,6 @@
+use borrow.Author.Rules.{rules}
+use Rattle.idx_3d_offset.proofs.Ranges.{count_is}
+use Rattle.idx_3d_offset.proofs.count.Goals as goal
+
+pub returns : goal.returns
+returns c = search count_is

@@ -1,0 +1,15 @@
+use mathlib.Core.Path.{◌≡◌, refl}
+use Prim.Native.Nat.{◌-◌, ◌≤◌}
+use native.Mathlib.Omega.{arith}
+use lib.ListN.{length, length-set}
+use borrow.Author.Rules.{rules}
+use Rattle.record_bytes.specs.Stores.{stored}
+use Rattle.record_bytes.specs.Columns.{numbers}
+use Rattle.record_bytes.proofs.Columns.{record_inside, record_fits, numbers_none, numbers_turn, numbers_done}
+use Rattle.record_bytes.proofs.decode.Given as goal
+
+abbrev pub invariant-loop-i : goal.invariant-loop-i
+invariant-loop-i l = (l.i ≤ l.n) × (length l.out ≡ length l.initial.out) × (l.out ≡ stored l.k (numbers l.size l.first l.i l.b) l.initial.out)
+
+abbrev pub decreases-loop-i : goal.decreases-loop-i
+decreases-loop-i l = l.n - l.i

@@ -1,0 +1,6 @@
+use Rattle.record_bytes.proofs.Columns.{bin_stored}
+use borrow.Author.Rules.{rules}
+use Rattle.record_bytes.proofs.encode_bin.Goals as goal
+
+pub returns : goal.returns
+returns c = search bin_stored

@@ -1,0 +1,15 @@
+use mathlib.Core.Path.{◌≡◌, refl}
+use Prim.Native.Nat.{◌+◌, ◌-◌, ◌≤◌}
+use native.Mathlib.Omega.{arith}
+use lib.ListN.{length, length-set}
+use borrow.Author.Rules.{rules}
+use Rattle.record_bytes.specs.Stores.{stored}
+use Rattle.definitions.specs.Records.{low_bytes}
+use Rattle.record_bytes.proofs.Numbers.{bytes_first, bytes_turn, bytes_done}
+use Rattle.record_bytes.proofs.store_float.Given as goal
+
+abbrev pub invariant-loop-i : goal.invariant-loop-i
+invariant-loop-i l = (l.i ≤ 8) × (length l.b ≡ length l.initial.b) × (stored (l.k + l.i) (low_bytes (8 - l.i) l.rest) l.b ≡ stored l.k (low_bytes 8 l.initial.rest) l.initial.b)
+
+abbrev pub decreases-loop-i : goal.decreases-loop-i
+decreases-loop-i l = 8 - l.i

@@ -1,0 +1,6 @@
+use Rattle.records.proofs.Curve.{listed_run}
+use borrow.Author.Rules.{rules}
+use Rattle.records.proofs.run.Goals as goal
+
+pub returns : goal.returns
+returns c = search listed_run

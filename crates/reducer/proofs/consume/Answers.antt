@@ -1,0 +1,6 @@
+use Rattle.reducer.proofs.Ways.{consumed_is}
+use borrow.Author.Rules.{rules}
+use Rattle.reducer.proofs.consume.Goals as goal
+
+pub returns : goal.returns
+returns c = search consumed_is

@@ -1,0 +1,17 @@
+use borrow.Author.Rules.{rules}
+use mathlib.Core.Path.{◌≡◌, refl}
+use Prim.Native.Nat.{◌≤◌, ◌-◌}
+use native.Mathlib.Omega.{arith}
+use lib.ListN.{length, length-set}
+use Rattle.definitions.specs.State.{merge_packs}
+use Rattle.state.proofs.Packs.{merge_turn, merge_done}
+use Rattle.state.proofs.add_first.Goals as goal
+
+pub loop-i-init : goal.loop-i-init
+loop-i-init c = (omega arith, refl, refl)
+
+pub loop-i-preserved : goal.loop-i-preserved
+loop-i-preserved c = (omega arith, simp length-set (omega arith), search merge_turn)
+
+pub returns : goal.returns
+returns c = search merge_done

@@ -1,0 +1,19 @@
+use Rattle.state.proofs.Results.{place_part, place_bytes}
+use Rattle.state.proofs.View.{part_here, part_never}
+use borrow.Author.Rules.{rules}
+use Rattle.state.proofs.state_number.Goals as goal
+
+pub offset_bounds-pack-s : goal.offset_bounds-pack-s
+offset_bounds-pack-s c = search place_bytes
+
+pub slice_bounds-read_number-count : goal.slice_bounds-read_number-count
+slice_bounds-read_number-count c = search place_part
+
+pub slice_bounds-read_number-start : goal.slice_bounds-read_number-start
+slice_bounds-read_number-start c = search place_part
+
+pub returns-in-At : goal.returns-in-At
+returns-in-At c = search part_here
+
+pub returns-in-Outside : goal.returns-in-Outside
+returns-in-Outside c = search part_never

@@ -1,0 +1,19 @@
+use mathlib.Core.Path.{◌≡◌, refl}
+use Prim.Native.Nat.{◌≤◌, ◌-◌}
+use native.Mathlib.Omega.{arith}
+use lib.ListN.{length, length-set}
+use Rattle.definitions.specs.Lists.{overwritten}
+use Rattle.definitions.specs.State.{result_number}
+use Rattle.state.specs.Readings.{state_kind_of}
+use Rattle.state.proofs.Results.{result_turn, result_done}
+use borrow.Author.Rules.{rules}
+use Rattle.state.proofs.write_result.Goals as goal
+
+pub loop-e-init : goal.loop-e-init
+loop-e-init c = (omega arith, refl, refl)
+
+pub loop-e-preserved : goal.loop-e-preserved
+loop-e-preserved c = (omega arith, simp length-set (omega arith), search result_turn)
+
+pub returns : goal.returns
+returns c = search result_done

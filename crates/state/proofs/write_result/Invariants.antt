@@ -1,0 +1,17 @@
+use mathlib.Core.Path.{◌≡◌, refl}
+use Prim.Native.Nat.{◌≤◌, ◌-◌}
+use native.Mathlib.Omega.{arith}
+use lib.ListN.{length, length-set}
+use Rattle.definitions.specs.Lists.{overwritten}
+use Rattle.definitions.specs.State.{result_number}
+use Rattle.state.specs.Readings.{state_kind_of}
+use Rattle.state.proofs.Results.{result_turn, result_done}
+use borrow.Author.Rules.{rules}
+use Rattle.state.proofs.write_result.Given as goal
+
+abbrev pub invariant-loop-e : goal.invariant-loop-e
+invariant-loop-e l =
+    (l.e ≤ l.state_size) × (length l.value ≡ length l.initial.value) × (l.value ≡ overwritten l.e (result_number (state_kind_of l.kind) l.n_states l.s l.pack) l.initial.value)
+
+abbrev pub decreases-loop-e : goal.decreases-loop-e
+decreases-loop-e l = l.state_size - l.e

@@ -1,0 +1,19 @@
+use borrow.Author.Rules.{rules}
+use mathlib.Core.Path.{◌≡◌, refl}
+use Prim.Native.Nat.{◌≤◌, ◌-◌}
+use native.Mathlib.Omega.{arith}
+use lib.ListN.{length, length-set}
+use lib.Ieee.{of_bits}
+use Rattle.definitions.specs.State.{reset_pack}
+use Rattle.state.proofs.Packs.{reset_turn, reset_done}
+use Rattle.state.proofs.zero_first.Goals as goal
+
+pub loop-i-init : goal.loop-i-init
+loop-i-init c = (omega arith, refl, refl)
+
+pub loop-i-preserved : goal.loop-i-preserved
+unfolding of_bits
+loop-i-preserved c = (omega arith, simp length-set (omega arith), search reset_turn)
+
+pub returns : goal.returns
+returns c = search reset_done

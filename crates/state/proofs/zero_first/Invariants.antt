@@ -1,0 +1,15 @@
+use borrow.Author.Rules.{rules}
+use mathlib.Core.Path.{◌≡◌, refl}
+use Prim.Native.Nat.{◌≤◌, ◌-◌}
+use native.Mathlib.Omega.{arith}
+use lib.ListN.{length, length-set}
+use lib.Ieee.{of_bits}
+use Rattle.definitions.specs.State.{reset_pack}
+use Rattle.state.proofs.Packs.{reset_turn, reset_done}
+use Rattle.state.proofs.zero_first.Given as goal
+
+abbrev pub invariant-loop-i : goal.invariant-loop-i
+invariant-loop-i l = (l.i ≤ l.n) × (length l.pack ≡ length l.initial.pack) × (l.pack ≡ reset_pack l.i l.initial.pack)
+
+abbrev pub decreases-loop-i : goal.decreases-loop-i
+decreases-loop-i l = l.n - l.i

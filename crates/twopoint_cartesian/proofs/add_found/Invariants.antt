@@ -1,0 +1,14 @@
+use borrow.Author.Rules.{rules}
+use mathlib.Core.Path.{◌≡◌, refl}
+use Prim.Native.Nat.{◌≤◌, ◌-◌, ◌*◌, ◌+◌}
+use native.Mathlib.Omega.{arith}
+use lib.ListN.{length}
+use Rattle.twopoint_cartesian.specs.Cells.{rows_weighted}
+use Rattle.twopoint_cartesian.proofs.Rows.{row_end, part_length, weighted_start, weighted_turn, weighted_done}
+use Rattle.twopoint_cartesian.proofs.add_found.Given as goal
+
+abbrev pub invariant-loop-r : goal.invariant-loop-r
+invariant-loop-r l = (l.r ≤ l.m) × (length l.state ≡ length l.initial.state) × (rows_weighted l.aw l.bw l.i l.j l.sa l.sb l.n l.found l.r (l.m - l.r) l.state ≡ rows_weighted l.aw l.bw l.i l.j l.sa l.sb l.n l.found 0 l.m l.initial.state)
+
+abbrev pub decreases-loop-r : goal.decreases-loop-r
+decreases-loop-r l = l.m - l.r

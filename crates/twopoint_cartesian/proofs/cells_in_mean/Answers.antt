@@ -1,0 +1,6 @@
+use Rattle.twopoint_cartesian.proofs.Means.{cells_in_mean_law}
+use borrow.Author.Rules.{rules}
+use Rattle.twopoint_cartesian.proofs.cells_in_mean.Goals as goal
+
+pub returns : goal.returns
+returns c = search cells_in_mean_law

@@ -1,0 +1,6 @@
+use Rattle.twopoint_cartesian.proofs.Rows.{datum_is}
+use borrow.Author.Rules.{rules}
+use Rattle.twopoint_cartesian.proofs.datum_at.Goals as goal
+
+pub returns : goal.returns
+returns c = search datum_is

@@ -1,0 +1,17 @@
+use mathlib.Core.Path.{◌≡◌, refl, ◌∙◌, ap}
+use Prim.Native.Nat.{ℕ, ◌-◌, ◌+◌, ◌≤◌, ◌<◌, zero-le}
+use native.Mathlib.Omega.{arith}
+use lib.ListN.{length, get_or, length-set}
+use lib.Ieee.{nan}
+use borrow.Author.Rules.{rules}
+use Rattle.definitions.specs.Points.{squared_diff_norm}
+use Rattle.unstructured_points.specs.Readings.{the_point}
+use Rattle.unstructured.specs.Pairs.{point_in}
+use Rattle.unstructured.proofs.Batches.{stored_next}
+use Rattle.unstructured.proofs.distances.Given as goal
+
+abbrev pub invariant-loop-e : goal.invariant-loop-e
+invariant-loop-e l = (l.e ≤ l.m) × (length l.d ≡ length l.initial.d) × ((x : ℕ) → x < l.e → get_or l.d x nan ≡ squared_diff_norm (the_point l.a) (point_in l.positions l.values l.weights l.stride (l.j + x)))
+
+abbrev pub decreases-loop-e : goal.decreases-loop-e
+decreases-loop-e l = l.m - l.e

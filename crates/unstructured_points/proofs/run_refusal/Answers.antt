@@ -1,0 +1,6 @@
+use Rattle.unstructured_points.proofs.Rules.{by_calls}
+use borrow.Author.Rules.{rules}
+use Rattle.unstructured_points.proofs.run_refusal.Goals as goal
+
+pub returns : goal.returns
+returns c = search by_calls
