@@ -3,6 +3,7 @@ use borrow.Author.Rules.{rules}
 use lib.IntN.{nat_abs, sub_ℕ}
 use mathlib.Core.Path.{◌∙◌, ap}
 use mir.Facts.{to_z-of_z}
+use mir.Syntax.{w64}
 use native.Mathlib.Omega.{arith}
 use Rattle.idx_3d_offset.proofs.Signed.{num, held, own, division, quotient, remainder}
 use Rattle.idx_3d_offset.specs.Offsets.{offset_number}
@@ -37,9 +38,9 @@ returns c = let a = c.args.a in
     let y = held num tt c.axis_len-len_y.ensures in
     let row = quotient num tt i x in
     let z = c.axis_offset in
-    let e = to_z-of_z (record { sfits = z.type-inv }) ∙ z.ensures ∙ ap (λ k. sub_ℕ (nat_abs k) (a.z - 1)) (quotient num tt row y).is in
+    let e = to_z-of_z {w = w64} (record { sfits = z.type_inv }) ∙ z.ensures ∙ ap (λ k. sub_ℕ (nat_abs k) (a.z - 1)) (quotient num tt row y).is in
     let v = c.axis_offset-2 in
-    let f = to_z-of_z (record { sfits = v.type-inv }) ∙ v.ensures ∙ ap (λ k. sub_ℕ (nat_abs k) (a.y - 1)) (remainder num tt row y).is in
+    let f = to_z-of_z {w = w64} (record { sfits = v.type_inv }) ∙ v.ensures ∙ ap (λ k. sub_ℕ (nat_abs k) (a.y - 1)) (remainder num tt row y).is in
     let u = c.axis_offset-3 in
-    let g = to_z-of_z (record { sfits = u.type-inv }) ∙ u.ensures ∙ ap (λ k. sub_ℕ (nat_abs k) (a.x - 1)) (remainder num tt i x).is in
+    let g = to_z-of_z {w = w64} (record { sfits = u.type_inv }) ∙ u.ensures ∙ ap (λ k. sub_ℕ (nat_abs k) (a.x - 1)) (remainder num tt i x).is in
     λ t. record { dz = e t; dy = f t; dx = g t }

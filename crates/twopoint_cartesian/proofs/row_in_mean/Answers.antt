@@ -10,7 +10,7 @@ pub loop-x-init : goal.loop-x-init
 loop-x-init c = (omega arith, search mean_start)
 
 pub loop-x-preserved : goal.loop-x-preserved
-loop-x-preserved c = (omega arith, mean_turn _ _ _ _ _ _ _ _ _ _ c.loop-x-test.true c.cells_in_mean_law.ensures c.loop-x.invariant.1)
+loop-x-preserved c = (omega arith, mean_turn _ _ _ _ _ _ _ _ _ _ c.loop-x-test.true c.cells_in_mean.ensures c.loop-x.invariant.1)
 
 pub returns : goal.returns
 returns c = search mean_done
