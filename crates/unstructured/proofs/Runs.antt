@@ -3,7 +3,7 @@ use mathlib.Core.Path.{◌≡◌, refl, sym, ap, subst, ◌∙◌}
 use mathlib.Core.Option.{Option, none, some}
 use mathlib.Core.Bool.{Bool, true, false}
 use mathlib.Core.List.{List, [], ◌∷◌}
-use Prim.Native.Nat.{ℕ, ◌+◌, ◌*◌, ◌<◌, ◌≤◌}
+use Prim.Native.Nat.{ℕ, ◌*◌, ◌<◌, ◌≤◌}
 use native.Mathlib.Omega.{arith}
 use lib.ListN.{length, take, replicate, length-replicate}
 use lib.Dec.{T}
@@ -28,7 +28,7 @@ use Rattle.reducer.specs.declared.PairOperation.{PairOperation}
 use Rattle.reducer.specs.declared.BuiltEdges.{BuiltEdges}
 use Rattle.reducer.specs.declared.Reducer.{Reducer}
 use Rattle.reducer.specs.Readings.{op_of, edges_of, kind_of}
-use Rattle.reducer.specs.Consume.{made_edges, made, built_bins, built_bin, consumed}
+use Rattle.reducer.specs.Consume.{made_edges, made, built_bins, built_bin}
 use Rattle.reducer.proofs.Placewise.{bin_bounded, room, made_bin, consumed_length, consumed_at_law, made_bins}
 use Rattle.edge_table.specs.Tabled.{Usable, UsableValues}
 use Rattle.edge_table.proofs.Lookup.{usable_made, usable_values_made}

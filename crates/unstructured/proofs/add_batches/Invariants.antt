@@ -1,12 +1,8 @@
-use borrow.Author.Rules.{rules}
-use mathlib.Core.Path.{◌≡◌, refl, ◌∙◌}
+use mathlib.Core.Path.{◌≡◌}
 use Prim.Native.Nat.{◌-◌}
-use native.Mathlib.Omega.{arith}
 use lib.ListN.{length}
 use Rattle.unstructured_points.specs.Readings.{the_point}
 use Rattle.unstructured.specs.Pairs.{point_in, row_added}
-use Rattle.unstructured.proofs.Batches.{batches_turn}
-use Rattle.unstructured.proofs.Loops.{row_done}
 use Rattle.unstructured.proofs.add_batches.Given as goal
 
 abbrev pub invariant-loop-j : goal.invariant-loop-j

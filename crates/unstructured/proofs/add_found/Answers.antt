@@ -1,8 +1,7 @@
 use Rattle.reducer.specs.Readings.{reading_of}
 use Rattle.unstructured.proofs.Batches.{by_weights}
-use borrow.Author.Rules.{rules}
 use Rattle.unstructured.proofs.add_found.Goals as goal
 
 pub returns-in-ComponentSumHistogram : goal.returns-in-ComponentSumHistogram
 returns-in-ComponentSumHistogram c = let x = c.args in
-    by_weights x.setup _ c.kind-1.given.1 _ (reading_of x.first) x.c0.now x.c1.now x.c2.now x.w.now _ _ _ _ _ c.add_weights.ensures
+    by_weights x.setup _ c.in-ComponentSumHistogram.is _ (reading_of x.first) x.c0.now x.c1.now x.c2.now x.w.now _ _ _ _ _ c.add_weights.ensures

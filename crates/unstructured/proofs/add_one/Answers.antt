@@ -1,5 +1,4 @@
 use Rattle.unstructured.proofs.Batches.{one_added}
-use borrow.Author.Rules.{rules}
 use Rattle.unstructured.proofs.add_one.Goals as goal
 
 pub returns : goal.returns

@@ -1,5 +1,4 @@
 use Rattle.unstructured.proofs.Loops.{add_kept, add_dropped}
-use borrow.Author.Rules.{rules}
 use Rattle.unstructured.proofs.add_pair.Goals as goal
 
 pub returns-in-Kept : goal.returns-in-Kept

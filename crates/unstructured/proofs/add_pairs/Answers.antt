@@ -1,6 +1,6 @@
 use borrow.Author.Rules.{rules}
 use mathlib.Core.Path.{◌≡◌, refl}
-use Prim.Native.Nat.{◌-◌, ◌≤◌, zero-le}
+use Prim.Native.Nat.{zero-le}
 use native.Mathlib.Omega.{arith}
 use lib.ListN.{length}
 use Rattle.reducer.specs.Readings.{reading_of}
@@ -11,13 +11,6 @@ use Rattle.unstructured.proofs.add_pairs.Goals as goal
 pub loop-q-init : goal.loop-q-init
 unfolding placed_to
 loop-q-init c = (zero-le, refl, refl)
-
-pub reading_at-second-requires : goal.reading_at-second-requires
-reading_at-second-requires c = let h = c.requires.listed.below c.loop-q.q c.loop-q-test.true in
-    search (rules, h, c.requires.parts)
-
-pub overflow_add-q : goal.overflow_add-q
-overflow_add-q c = omega (arith, c.loop-q-test, c.requires.parts, c.requires.listed)
 
 pub loop-q-preserved : goal.loop-q-preserved
 loop-q-preserved c = let x = c.args in

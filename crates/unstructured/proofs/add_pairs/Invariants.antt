@@ -1,11 +1,8 @@
-use borrow.Author.Rules.{rules}
-use mathlib.Core.Path.{◌≡◌, refl}
-use Prim.Native.Nat.{◌-◌, ◌≤◌, zero-le}
-use native.Mathlib.Omega.{arith}
+use mathlib.Core.Path.{◌≡◌}
+use Prim.Native.Nat.{◌-◌, ◌≤◌}
 use lib.ListN.{length}
 use Rattle.reducer.specs.Readings.{reading_of}
 use Rattle.unstructured.specs.Batches.{reading_in, placed_to}
-use Rattle.unstructured.proofs.Batches.{placed_next}
 use Rattle.unstructured.proofs.add_pairs.Given as goal
 
 abbrev pub invariant-loop-q : goal.invariant-loop-q

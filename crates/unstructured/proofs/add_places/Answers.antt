@@ -5,42 +5,12 @@ use Rattle.unstructured.proofs.Batches.{places_added_law}
 use borrow.Author.Rules.{rules}
 use Rattle.unstructured.proofs.add_places.Goals as goal
 
-pub value_bins-requires-clause-tabled_values : goal.value_bins-requires-clause-tabled_values
-value_bins-requires-clause-tabled_values c =
-    let l = c.requires.d_len in
-    c.requires.tabled_run.values
-
-pub value_bins-requires-clause-parts : goal.value_bins-requires-clause-parts
-value_bins-requires-clause-parts c =
-    let l = c.requires.d_len in
-    c.requires.parts
-
-pub value_bins-requires-clause-listed : goal.value_bins-requires-clause-listed
-value_bins-requires-clause-listed c =
-    let l = c.requires.d_len in
-    c.requires.listed
-
-pub value_bins-requires-clause-d_len : goal.value_bins-requires-clause-d_len
-value_bins-requires-clause-d_len c =
-    let l = c.requires.d_len in
-    (l.0, l.2)
-
-pub add_found-requires-clause-parts : goal.add_found-requires-clause-parts
-add_found-requires-clause-parts c =
-    let l = c.requires.d_len in
-    c.requires.parts
-
-pub add_found-requires-clause-listed : goal.add_found-requires-clause-listed
-add_found-requires-clause-listed c =
-    let l = c.requires.d_len in
-    c.requires.listed
-
 pub add_found-requires-clause-found_len : goal.add_found-requires-clause-found_len
 add_found-requires-clause-found_len c =
     let l = c.requires.d_len in
-    (c.bins_of.auto.1.1.1.1.1.1.0 ∙ l.1, c.value_bins.auto.1.1.1.1.1.1.1.1.1.1.1.1.0 ∙ l.2)
+    (c.bins_of.auto.found ∙ l.1, c.value_bins.auto.found ∙ l.2)
 
 pub returns : goal.returns
 returns c = let x = c.args in
     let l = c.requires.d_len in
-    places_added_law x.setup x.list.now x.value_edges.now x.hints.now x.tables.edges (reading_of x.first) (reading_in x.c0.now x.c1.now x.c2.now x.w.now) x.places.now x.d.now x.found.now x.value_found.now _ _ x.scratch.now _ c.requires.tabled_run.edges c.slice_known-1.given (l.1 ∙ sym l.0) c.bins_of.ensures c.value_bins.ensures c.add_found.ensures
+    places_added_law x.setup x.list.now x.value_edges.now x.hints.now x.tables.edges (reading_of x.first) (reading_in x.c0.now x.c1.now x.c2.now x.w.now) x.places.now x.d.now x.found.now x.value_found.now _ _ x.scratch.now _ c.requires.tabled_run.edges (search rules) (l.1 ∙ sym l.0) c.bins_of.ensures c.value_bins.ensures c.add_found.ensures

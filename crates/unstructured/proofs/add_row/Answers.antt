@@ -1,10 +1,5 @@
 use borrow.Author.Rules.{rules}
-use mathlib.Core.Path.{◌≡◌, refl}
-use Prim.Native.Nat.{◌-◌}
-use native.Mathlib.Omega.{arith}
-use lib.ListN.{length}
-use Rattle.unstructured_points.specs.Readings.{the_point}
-use Rattle.unstructured.specs.Pairs.{point_in, row_added}
+use mathlib.Core.Path.{refl}
 use Rattle.unstructured.proofs.Batches.{row_turn}
 use Rattle.unstructured.proofs.Loops.{row_done}
 use Rattle.unstructured.proofs.add_row.Goals as goal

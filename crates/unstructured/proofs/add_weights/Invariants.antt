@@ -1,10 +1,7 @@
-use borrow.Author.Rules.{rules}
-use mathlib.Core.Path.{◌≡◌, refl}
-use Prim.Native.Nat.{◌-◌, ◌≤◌, zero-le}
-use native.Mathlib.Omega.{arith}
+use mathlib.Core.Path.{◌≡◌}
+use Prim.Native.Nat.{◌-◌, ◌≤◌}
 use lib.ListN.{length}
 use Rattle.unstructured.specs.Batches.{weights_to}
-use Rattle.unstructured.proofs.Batches.{weights_none, weights_next}
 use Rattle.unstructured.proofs.add_weights.Given as goal
 
 abbrev pub invariant-loop-q : goal.invariant-loop-q

@@ -1,7 +1,6 @@
-use mathlib.Core.Path.{◌≡◌, refl, ◌∙◌, ap}
-use Prim.Native.Nat.{ℕ, ◌-◌, ◌+◌, ◌≤◌, ◌<◌, zero-le}
+use mathlib.Core.Path.{refl, ◌∙◌, ap}
+use Prim.Native.Nat.{ℕ, ◌+◌, zero-le}
 use native.Mathlib.Omega.{arith}
-use lib.ListN.{length, get_or, length-set}
 use lib.Ieee.{nan}
 use borrow.Author.Rules.{rules}
 use Rattle.definitions.specs.Points.{squared_diff_norm}

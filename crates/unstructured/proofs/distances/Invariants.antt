@@ -1,13 +1,10 @@
-use mathlib.Core.Path.{◌≡◌, refl, ◌∙◌, ap}
-use Prim.Native.Nat.{ℕ, ◌-◌, ◌+◌, ◌≤◌, ◌<◌, zero-le}
-use native.Mathlib.Omega.{arith}
-use lib.ListN.{length, get_or, length-set}
+use mathlib.Core.Path.{◌≡◌}
+use Prim.Native.Nat.{ℕ, ◌-◌, ◌+◌, ◌≤◌, ◌<◌}
+use lib.ListN.{length, get_or}
 use lib.Ieee.{nan}
-use borrow.Author.Rules.{rules}
 use Rattle.definitions.specs.Points.{squared_diff_norm}
 use Rattle.unstructured_points.specs.Readings.{the_point}
 use Rattle.unstructured.specs.Pairs.{point_in}
-use Rattle.unstructured.proofs.Batches.{stored_next}
 use Rattle.unstructured.proofs.distances.Given as goal
 
 abbrev pub invariant-loop-e : goal.invariant-loop-e

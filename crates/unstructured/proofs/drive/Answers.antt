@@ -1,40 +1,26 @@
 use mathlib.Core.Path.{refl}
 use Rattle.unstructured.proofs.Runs.{used_limit, used_fits, readable, same_points, driven, usable_run}
-use borrow.Author.Rules.{rules}
 use Rattle.unstructured.proofs.drive.Goals as goal
 
 pub overflow_mul-used : goal.overflow_mul-used
 overflow_mul-used c = search used_fits
 
 pub run_sized-requires-clause-used_bound : goal.run_sized-requires-clause-used_bound
-run_sized-requires-clause-used_bound c =
-    let x = c.args in
-    let u = usable_run x.edges x.list.now x.kind x.value_edges.now x.shape _ c.requires.drivable c.shared_slice_known-7-1.given c.shared_slice_known-8-1.given (record { op = x.op; edges = c.build_edges-built.result; reducer = c.build_reducer-reducer.result; n_states = x.shape.n_states }) c.build_edges-built.ensures c.build_reducer-reducer.ensures refl in
-    search used_limit
+run_sized-requires-clause-used_bound c = search used_limit
 
 pub run_sized-requires-clause-usable_run : goal.run_sized-requires-clause-usable_run
 run_sized-requires-clause-usable_run c =
     let x = c.args in
-    let u = usable_run x.edges x.list.now x.kind x.value_edges.now x.shape _ c.requires.drivable c.shared_slice_known-7-1.given c.shared_slice_known-8-1.given (record { op = x.op; edges = c.build_edges-built.result; reducer = c.build_reducer-reducer.result; n_states = x.shape.n_states }) c.build_edges-built.ensures c.build_reducer-reducer.ensures refl in
-    u
+    usable_run x.edges x.list.now x.kind x.value_edges.now x.shape _ c.requires.drivable c.type_inv.list c.type_inv.value_edges (record { op = x.op; edges = c.build_edges-built.result; reducer = c.build_reducer-reducer.result; n_states = x.shape.n_states }) c.build_edges-built.ensures c.build_reducer-reducer.ensures refl
 
 pub run_sized-requires-clause-readable : goal.run_sized-requires-clause-readable
-run_sized-requires-clause-readable c =
-    let x = c.args in
-    let u = usable_run x.edges x.list.now x.kind x.value_edges.now x.shape _ c.requires.drivable c.shared_slice_known-7-1.given c.shared_slice_known-8-1.given (record { op = x.op; edges = c.build_edges-built.result; reducer = c.build_reducer-reducer.result; n_states = x.shape.n_states }) c.build_edges-built.ensures c.build_reducer-reducer.ensures refl in
-    search readable
+run_sized-requires-clause-readable c = search readable
 
 pub run_sized-requires-clause-readable_2 : goal.run_sized-requires-clause-readable_2
-run_sized-requires-clause-readable_2 c =
-    let x = c.args in
-    let u = usable_run x.edges x.list.now x.kind x.value_edges.now x.shape _ c.requires.drivable c.shared_slice_known-7-1.given c.shared_slice_known-8-1.given (record { op = x.op; edges = c.build_edges-built.result; reducer = c.build_reducer-reducer.result; n_states = x.shape.n_states }) c.build_edges-built.ensures c.build_reducer-reducer.ensures refl in
-    search readable
+run_sized-requires-clause-readable_2 c = search readable
 
 pub run_sized-requires-clause-a_stride_value : goal.run_sized-requires-clause-a_stride_value
-run_sized-requires-clause-a_stride_value c =
-    let x = c.args in
-    let u = usable_run x.edges x.list.now x.kind x.value_edges.now x.shape _ c.requires.drivable c.shared_slice_known-7-1.given c.shared_slice_known-8-1.given (record { op = x.op; edges = c.build_edges-built.result; reducer = c.build_reducer-reducer.result; n_states = x.shape.n_states }) c.build_edges-built.ensures c.build_reducer-reducer.ensures refl in
-    search (same_points, c.stride_of-a_stride.ensures, c.stride_of-b_stride.ensures, c.requires.a_weights_value)
+run_sized-requires-clause-a_stride_value c = search (same_points, c.stride_of-a_stride.ensures, c.stride_of-b_stride.ensures, c.requires.a_weights_value)
 
 pub returns : goal.returns
 returns c = search driven

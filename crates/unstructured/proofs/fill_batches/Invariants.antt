@@ -1,10 +1,8 @@
-use borrow.Author.Rules.{rules}
-use mathlib.Core.Path.{◌≡◌, refl, ◌∙◌}
+use mathlib.Core.Path.{◌≡◌}
 use Prim.Native.Nat.{◌-◌}
-use native.Mathlib.Omega.{arith}
 use lib.ListN.{length}
 use Rattle.unstructured.specs.Pairs.{point_in, points_in, filled}
-use Rattle.unstructured.proofs.Loops.{fill_left, fill_starts, fill_turn, fill_done}
+use Rattle.unstructured.proofs.Loops.{fill_left}
 use Rattle.unstructured.proofs.fill_batches.Given as goal
 
 abbrev pub invariant-loop-i : goal.invariant-loop-i

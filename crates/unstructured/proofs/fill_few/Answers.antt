@@ -1,11 +1,8 @@
 use borrow.Author.Rules.{rules}
-use mathlib.Core.Path.{◌≡◌, refl, ◌∙◌}
-use Prim.Native.Nat.{◌-◌}
+use mathlib.Core.Path.{refl}
 use native.Mathlib.Omega.{arith}
-use lib.ListN.{length}
-use Rattle.unstructured.specs.Pairs.{point_in, points_in, filled}
-use Rattle.unstructured.proofs.Loops.{fill_left, fill_starts, fill_turn, fill_done}
-use Rattle.edge_table.specs.Tabled.{Tabled}
+use Rattle.unstructured.specs.Pairs.{point_in, points_in}
+use Rattle.unstructured.proofs.Loops.{fill_starts, fill_turn, fill_done}
 use Rattle.edge_table.proofs.Lookup.{tabled}
 use Rattle.unstructured.proofs.fill_few.Goals as goal
 
@@ -13,24 +10,6 @@ pub loop-i-init : goal.loop-i-init
 unfolding points_in
 loop-i-init c = let x = c.args in
     (refl, tabled _ _ _ _ c.requires.usable_run.edges c.table_of-table.ensures, fill_starts x.setup x.list.now x.value_edges.now x.auto (point_in x.a_positions.now x.a_values.now x.a_weights.now x.a_stride) (point_in x.b_positions.now x.b_values.now x.b_weights.now x.b_stride) x.a_n x.b_n x.scratch.now c.requires.a_stride_value)
-
-pub point_at-a-requires : goal.point_at-a-requires
-point_at-a-requires c = search (rules, c.requires.readable)
-
-pub first_partner-start-requires : goal.first_partner-start-requires
-first_partner-start-requires c = omega (arith, c.loop-i-test, c.requires.readable.few)
-
-pub add_row-requires-clause-tabled : goal.add_row-requires-clause-tabled
-add_row-requires-clause-tabled c = c.loop-i.invariant.1
-
-pub add_row-requires-clause-readable : goal.add_row-requires-clause-readable
-add_row-requires-clause-readable c = c.requires.readable_2
-
-pub overflow_add-i : goal.overflow_add-i
-overflow_add-i c = omega (arith, c.loop-i-test, c.requires.readable.few)
-
-pub loop-i-smaller : goal.loop-i-smaller
-loop-i-smaller c = omega (arith, c.loop-i-test)
 
 pub loop-i-preserved : goal.loop-i-preserved
 loop-i-preserved c = let t = c.loop-i in

@@ -1,12 +1,9 @@
-use borrow.Author.Rules.{rules}
-use mathlib.Core.Path.{◌≡◌, refl, ◌∙◌}
+use mathlib.Core.Path.{◌≡◌}
 use Prim.Native.Nat.{◌-◌}
-use native.Mathlib.Omega.{arith}
 use lib.ListN.{length}
 use Rattle.unstructured.specs.Pairs.{point_in, points_in, filled}
-use Rattle.unstructured.proofs.Loops.{fill_left, fill_starts, fill_turn, fill_done}
+use Rattle.unstructured.proofs.Loops.{fill_left}
 use Rattle.edge_table.specs.Tabled.{Tabled}
-use Rattle.edge_table.proofs.Lookup.{tabled}
 use Rattle.unstructured.proofs.fill_few.Given as goal
 
 abbrev pub invariant-loop-i : goal.invariant-loop-i

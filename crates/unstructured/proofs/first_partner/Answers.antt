@@ -1,5 +1,4 @@
 use Rattle.unstructured.proofs.Loops.{partner_auto}
-use borrow.Author.Rules.{rules}
 use Rattle.unstructured.proofs.first_partner.Goals as goal
 
 pub returns-then-auto : goal.returns-then-auto

@@ -1,9 +1,8 @@
 use mathlib.Core.Path.{◌≡◌, refl, sym, ap, ◌∙◌}
-use Prim.Native.Nat.{ℕ, ◌≤◌, ◌-◌, ◌+◌, zero-le}
+use Prim.Native.Nat.{ℕ, ◌≤◌, ◌+◌, zero-le}
 use native.Mathlib.Nat.{le_refl}
 use native.Mathlib.Omega.{arith}
-use lib.ListN.{length, take, get_or, set, length-set}
-use lib.Ieee as Ieee
+use lib.ListN.{take, get_or, set, length-set}
 use lib.Ieee.{nan}
 use borrow.Author.Rules.{rules}
 use Rattle.edge_table.specs.Table.{flag_of}
@@ -14,9 +13,6 @@ use Rattle.unstructured.proofs.list_inside.Goals as goal
 pub loop-e-init : goal.loop-e-init
 unfolding kept_below picked
 loop-e-init c = (zero-le, zero-le, refl, refl, refl, refl, λ x p. refl)
-
-pub overflow_add-c : goal.overflow_add-c
-overflow_add-c c = omega (arith, c, c.flag-c.ensures.1)
 
 pub loop-e-preserved : goal.loop-e-preserved
 loop-e-preserved c = let x = c.args in

@@ -1,14 +1,8 @@
-use mathlib.Core.Path.{◌≡◌, refl, sym, ap, ◌∙◌}
-use Prim.Native.Nat.{ℕ, ◌≤◌, ◌-◌, ◌+◌, zero-le}
-use native.Mathlib.Nat.{le_refl}
-use native.Mathlib.Omega.{arith}
-use lib.ListN.{length, take, get_or, set, length-set}
-use lib.Ieee as Ieee
+use mathlib.Core.Path.{◌≡◌}
+use Prim.Native.Nat.{ℕ, ◌≤◌, ◌-◌}
+use lib.ListN.{length, take, get_or}
 use lib.Ieee.{nan}
-use borrow.Author.Rules.{rules}
-use Rattle.edge_table.specs.Table.{flag_of}
 use Rattle.unstructured.specs.Batches.{kept_below, picked}
-use Rattle.unstructured.proofs.Batches.{one_more, kept_next, picked_next, above_stored}
 use Rattle.unstructured.proofs.list_inside.Given as goal
 
 abbrev pub invariant-loop-e : goal.invariant-loop-e

@@ -1,5 +1,4 @@
 use Rattle.unstructured.proofs.Batches.{pair_at_law, pair_none}
-use borrow.Author.Rules.{rules}
 use Rattle.unstructured.proofs.pair_found.Goals as goal
 
 pub returns-in-At : goal.returns-in-At

@@ -1,5 +1,4 @@
 use Rattle.unstructured.proofs.Loops.{pair_kept, pair_dropped}
-use borrow.Author.Rules.{rules}
 use Rattle.unstructured.proofs.pair_of.Goals as goal
 
 pub returns-in-At : goal.returns-in-At

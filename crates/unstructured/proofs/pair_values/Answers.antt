@@ -1,8 +1,8 @@
 use borrow.Author.Rules.{rules}
-use mathlib.Core.Path.{◌≡◌, refl, ◌∙◌, ap}
-use Prim.Native.Nat.{ℕ, ◌-◌, ◌≤◌, ◌<◌, zero-le}
+use mathlib.Core.Path.{refl, ◌∙◌, ap}
+use Prim.Native.Nat.{ℕ, zero-le}
 use native.Mathlib.Omega.{arith}
-use lib.ListN.{length, get_or}
+use lib.ListN.{get_or}
 use lib.Ieee.{nan}
 use Rattle.definitions.specs.Points.{Reading}
 use Rattle.definitions.specs.Reducer.{datum_of, component_sum}
@@ -13,10 +13,6 @@ use Rattle.unstructured.proofs.pair_values.Goals as goal
 
 pub loop-q-init : goal.loop-q-init
 loop-q-init c = (zero-le, refl, λ x h. absurd (omega arith))
-
-pub reading_at-second-requires : goal.reading_at-second-requires
-reading_at-second-requires c = let h = c.requires.listed.below c.loop-q.q c.loop-q-test.true in
-    search (rules, h, c.requires.parts)
 
 pub loop-q-preserved : goal.loop-q-preserved
 loop-q-preserved c = let x = c.args in

@@ -1,14 +1,10 @@
-use borrow.Author.Rules.{rules}
-use mathlib.Core.Path.{◌≡◌, refl, ◌∙◌, ap}
-use Prim.Native.Nat.{ℕ, ◌-◌, ◌≤◌, ◌<◌, zero-le}
-use native.Mathlib.Omega.{arith}
+use mathlib.Core.Path.{◌≡◌}
+use Prim.Native.Nat.{ℕ, ◌-◌, ◌≤◌, ◌<◌}
 use lib.ListN.{length, get_or}
 use lib.Ieee.{nan}
-use Rattle.definitions.specs.Points.{Reading}
 use Rattle.definitions.specs.Reducer.{datum_of, component_sum}
 use Rattle.reducer.specs.Readings.{op_of, reading_of}
 use Rattle.unstructured.specs.Batches.{reading_in}
-use Rattle.unstructured.proofs.Batches.{stored_next, values_are}
 use Rattle.unstructured.proofs.pair_values.Given as goal
 
 abbrev pub invariant-loop-q : goal.invariant-loop-q

@@ -1,6 +1,5 @@
 use mathlib.Core.Path.{refl}
 use Rattle.unstructured.specs.Pairs.{point_in}
-use borrow.Author.Rules.{rules}
 use Rattle.unstructured.proofs.point_at.Goals as goal
 
 pub returns : goal.returns

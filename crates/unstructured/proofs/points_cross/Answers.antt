@@ -1,19 +1,18 @@
-use mathlib.Core.Path.{◌∙◌, ap, refl, sym}
-use mathlib.Core.Bool.{true, false, true≢false}
-use mathlib.Core.Logic.{⊎_elim}
-use lib.ListN.{length}
+use mathlib.Core.Path.{◌∙◌, sym}
+use mathlib.Core.Bool.{false, true≢false}
 use Rattle.unstructured_points.specs.Readings.{points_of}
 use Rattle.parallel_serial.proofs.Refusals.{answer, stays, done}
 use Rattle.unstructured.proofs.Runs.{drivable}
-use borrow.Author.Rules.{rules}
 use Rattle.unstructured.proofs.points_cross.Goals as goal
+use Rattle.unstructured.proofs.points_cross.Goals.{then-number-eq0, else-number-eq0}
 
 pub drive-requires : goal.drive-requires
 drive-requires c = let x = c.args in
     let p = points_of x.a x.a_positions.now x.a_values.now x.a_weights.now in
     let q = points_of x.b x.b_positions.now x.b_values.now x.b_weights.now in
     let h = c.run_refusal-number.ensures in
-    drivable false p q x.edges x.list.now x.kind x.value_edges.now x.shape x.pack.now _ h c.if-number-eq0.true (λ t. absurd (true≢false (sym t)))
+    let a = drivable false p q x.edges x.list.now x.kind x.value_edges.now x.shape x.pack.now _ h c.if-number-eq0.true (λ t. absurd (true≢false (sym t))) in
+    record { held = a.0; held_2 = a.1.0; a_weights_value = a.1.1.0; drivable = a.1.1.1 }
 
 pub returns-clause-result_value : goal.returns-clause-result_value
 returns-clause-result_value c =
@@ -25,4 +24,7 @@ pub returns-clause-pack_after : goal.returns-clause-pack_after
 returns-clause-pack_after c =
     let s = c.args.pack.now in
     let h = c.run_refusal-number.ensures in
-    ⊎_elim (λ w. done _ _ _ _ _ _ _ s _ h w.0.taken _ (w.5 ∙ w.2.ensures)) (λ w. w.1 ∙ stays _ _ _ _ _ _ _ s _ h w.0.left) c.if-number-eq0.branch
+    elim c.if-number-eq0.branch [
+      | then-number-eq0 w ↦ done _ _ _ _ _ _ _ s _ h w.if-number-eq0.true _ (w.pack-is ∙ w.drive.ensures)
+      | else-number-eq0 w ↦ w.pack-is ∙ stays _ _ _ _ _ _ _ s _ h w.if-number-eq0.false
+    ]

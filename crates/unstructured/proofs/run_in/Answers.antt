@@ -1,9 +1,7 @@
-use mathlib.Core.Path.{◌∙◌, ap}
-use mathlib.Core.Logic.{⊎_elim}
-use lib.ListN.{length}
+use mathlib.Core.Path.{◌∙◌}
 use Rattle.unstructured.proofs.Runs.{added_filled}
-use borrow.Author.Rules.{rules}
 use Rattle.unstructured.proofs.run_in.Goals as goal
+use Rattle.unstructured.proofs.run_in.Goals.{then-few_points, else-few_points}
 
 pub returns : goal.returns
-returns c = added_filled _ _ _ _ (⊎_elim (λ w. w.5 ∙ w.2.ensures) (λ w. w.5 ∙ w.2.ensures) c.if-few_points.branch) c.add_scratch.ensures
+returns c = added_filled _ _ _ _ (elim c.if-few_points.branch [ then-few_points w ↦ w.scratch-is ∙ w.fill_few.ensures | else-few_points w ↦ w.scratch-is ∙ w.fill_many.ensures ]) c.add_scratch.ensures
