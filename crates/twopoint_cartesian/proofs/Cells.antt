@@ -1,15 +1,14 @@
 -- The cells of an offset: their places are in the slices, and the loops over them are the definitions' pairs in order. Assumes nothing.
-use mathlib.Core.Path.{◌≡◌, refl, sym, ap, ◌∙◌}
-use mathlib.Core.List.{List, [], ◌∷◌, map}
-use Prim.Native.Nat.{ℕ, suc, ◌+◌, ◌-◌, ◌*◌, ◌<◌, ◌≤◌}
+use mathlib.Core.Path.{◌≡◌, refl, ap, ◌∙◌}
+use mathlib.Core.List.{List, [], ◌∷◌}
+use Prim.Native.Nat.{ℕ, ◌+◌, ◌-◌, ◌*◌, ◌<◌, ◌≤◌}
 use native.Mathlib.Nat.{add-mul, mul-one, mul-le-mul, mul-le-mul_right}
 use native.Mathlib.Omega.{arith}
 use lib.ListN.{length}
-use lib.IntN.{ℤ, pos, negsuc, nat_abs}
+use lib.IntN.{ℤ, pos, negsuc}
 use lib.Ieee.{Float}
 use mir.Syntax.{w64}
 use mir.Val.{to_z, of_z}
-use Rattle.definitions.specs.Lists.{upto, flat_map}
 use Rattle.definitions.specs.Blocks.{CartesianBlock, Cell, cell, cell_index, start_a, start_b, count, cell_pairs}
 use Rattle.definitions.specs.Blocks as blocks
 use Rattle.laws.proofs.Loops.{loop_left, run_on, loop3}
@@ -18,7 +17,7 @@ use Rattle.idx_3d_offset.specs.declared.Axes.{Axes}
 use Rattle.idx_3d_offset.specs.declared.Idx3DOffset.{Idx3DOffset}
 use Rattle.idx_3d_offset.specs.Offsets.{idx_of, Within, Reach, Walkable}
 use Rattle.parallel_serial.specs.declared.Setup.{Setup}
-use Rattle.twopoint_cartesian.specs.Cells.{Fields, RowFits, PlaneFits, BlockFits, Near, AllNear, Ready, Placed, fields_in, first_a, first_b, overlap_of, cells_added, row_added, plane_added, block_added, pair_step, offset_cells}
+use Rattle.twopoint_cartesian.specs.Cells.{BlockFits, Near, AllNear, Ready, Placed, fields_in, first_a, first_b, overlap_of, cells_added, row_added, plane_added, block_added, pair_step, offset_cells}
 use Rattle.twopoint_cartesian.proofs.Distance.{back}
 
 -- ---- a cell's place

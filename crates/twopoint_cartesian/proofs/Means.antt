@@ -1,13 +1,11 @@
 -- A mean's cells in locals: the two numbers, summed apart, are the state that the cells leave. Assumes nothing.
 use mathlib.Core.Path.{◌≡◌, refl, sym, ap, subst, ◌∙◌}
-use mathlib.Core.Logic.{◌⊎◌, inl, inr}
-use mathlib.Core.Bool.{Bool, true, false, true≢false}
+use mathlib.Core.Bool.{Bool, true, true≢false}
 use mathlib.Core.List.{List}
 use Prim.Native.Nat.{ℕ, zero, suc, ◌+◌, ◌-◌, ◌*◌, ◌<◌, ◌≤◌}
 use native.Mathlib.Nat.{sub-zero}
 use native.Mathlib.Omega.{arith}
 use lib.Ieee.{Float, binary64, add, mul}
-use denote.Enum.Declared.{tag_of}
 use mathlib.Core.Option.{some}
 use Rattle.definitions.specs.Blocks as blocks
 use Rattle.definitions.specs.Blocks.{CartesianBlock, cell_index, count, cell_pairs, distance_squared}
@@ -22,7 +20,6 @@ use Rattle.reducer.specs.declared.Reducer.TheVariants.{Comp0Mean, ComponentSumMe
 use Rattle.reducer.specs.Readings.{the_datum}
 use Rattle.reducer.specs.Consume as consume
 use Rattle.reducer.specs.Consume.{built_bin, reducer_size, consumed}
-use Rattle.reducer.specs.contracts.Reducer as reducers
 use Rattle.reducer.proofs.Placewise.{room}
 use Rattle.idx_3d_offset.specs.declared.Axes.{Axes}
 use Rattle.parallel_serial.specs.declared.Setup.{Setup}
@@ -152,11 +149,10 @@ module _ (setup : Setup) (e : is_mean setup.reducer ≡ true) where
       λ t. fold_pack (λ d s. merged_in (built_bin setup.edges list (distance_squared width a b d)) setup.n_states (fold_pack (any_pair es fs a b t) (cell_pairs a b d) (fresh size)) s) l s
 
 -- what the arm of no histogram is told
-pub mean_told : (k : Reducer) → (tag_of reducers.the_type k ≡ 0) ⊎ (tag_of reducers.the_type k ≡ 1) → is_mean k ≡ true
+pub mean_told : (k : Reducer) → ((e : BuiltEdges) → k ≡ ComponentSumHistogram e → ⊥) → is_mean k ≡ true
 mean_told Comp0Mean h = refl
 mean_told ComponentSumMean h = refl
-mean_told (ComponentSumHistogram edges) (inl h) = absurd (omega (arith, h))
-mean_told (ComponentSumHistogram edges) (inr h) = absurd (omega (arith, h))
+mean_told (ComponentSumHistogram edges) h = absurd (h edges refl)
 
 pub mean_size : (k : Reducer) (m : ℕ) → is_mean k ≡ true → reducer_size k m ≡ 2
 mean_size Comp0Mean m e = refl

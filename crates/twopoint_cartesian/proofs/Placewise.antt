@@ -1,21 +1,21 @@
 -- The walk leaves in scratch, place by place, what the definitions say. Assumes nothing.
-use mathlib.Core.Path.{◌≡◌, refl, sym, ap, ◌∙◌}
+use mathlib.Core.Path.{◌≡◌, refl, ap, ◌∙◌}
 use mathlib.Core.Option.{Option, none, some}
 use mathlib.Core.Bool.{Bool, true, false, cond}
-use mathlib.Core.List.{List, [], ◌∷◌}
-use Prim.Native.Nat.{ℕ, zero, suc, ◌+◌, ◌*◌, ◌/◌, ◌%◌, ◌<◌, ◌≤◌}
-use native.Mathlib.Nat.{mod-one, div-one, div-lt_iff_lt-mul, mul_comm, zero-add}
+use mathlib.Core.List.{List}
+use Prim.Native.Nat.{ℕ, zero, suc, ◌+◌, ◌*◌, ◌<◌, ◌≤◌}
+use native.Mathlib.Nat.{mod-one, div-one, div-lt_iff_lt-mul, mul_comm}
 use native.Mathlib.Omega.{arith}
-use lib.Dec.{eqb, eqb_refl}
+use lib.Dec.{eqb}
 use lib.ListN.{length, replicate, length-set, length-replicate}
-use lib.Ieee.{Float, binary64, add}
+use lib.Ieee.{Float}
 use borrow.Author.Tests.{ne_eqb, eqb-true, eqb-false}
 use Rattle.definitions.specs.Lists.{at, range, add_opt, fold_at}
 use Rattle.definitions.specs.Floats.{zero_f}
 use Rattle.definitions.specs.Bins.{bins, bin_of}
 use Rattle.definitions.specs.Blocks as blocks
 use Rattle.definitions.specs.Blocks.{CartesianBlock, Cell, cell_index, reading_at, cell_pairs, distance_squared}
-use Rattle.definitions.specs.Reducer.{Datum, datum_of, datum_term, kind_size, in_bin}
+use Rattle.definitions.specs.Reducer.{datum_of, datum_term, kind_size, in_bin}
 use Rattle.definitions.specs.Run.{Sets, Run, used, place, state_at, number_at, cells_at, offset_at}
 use Rattle.laws.proofs.Loops.{loop_left}
 use Rattle.laws.proofs.Places.{fold_pack, placewise, bump, hist_at}
@@ -29,7 +29,7 @@ use Rattle.parallel_serial.specs.declared.Shape.{Shape}
 use Rattle.parallel_serial.specs.Drive.{run_of}
 use Rattle.parallel_serial.proofs.Scratch.{zero_at}
 use Rattle.parallel_serial.specs.declared.Setup.{Setup}
-use Rattle.twopoint_cartesian.specs.Cells.{fields_in, reading_in, cells_added, pair_step, offset_cells, fresh, state_merged, merged_in, offset_added, offsets_added}
+use Rattle.twopoint_cartesian.specs.Cells.{cells_added, pair_step, offset_cells, fresh, state_merged, merged_in, offset_added, offsets_added}
 use Rattle.twopoint_cartesian.proofs.Merge.{fold_length, pair_length, cells_length}
 
 -- ---- a state merged into a bin

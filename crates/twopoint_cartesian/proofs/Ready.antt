@@ -13,11 +13,11 @@ use Rattle.definitions.specs.Blocks as blocks
 use Rattle.definitions.specs.Blocks.{CartesianBlock, required_length}
 use Rattle.definitions.specs.Rules.{refusal, outside, over_block, over_sets, block_rules, width_rules, set_rules}
 use Rattle.laws.proofs.Refusals.{none_broken_law, none_refused, broken_left, broken_right}
-use Rattle.idx_3d_offset.specs.Offsets.{Axis, Walkable}
+use Rattle.idx_3d_offset.specs.Offsets.{Axis}
 use Rattle.spatial.specs.Refusals.{sets_for}
 use Rattle.spatial.proofs.Refusals.{either}
 use Rattle.spatial.proofs.Limits.{numbers}
-use Rattle.twopoint_cartesian.specs.Cells.{Near, AllNear, Ready}
+use Rattle.twopoint_cartesian.specs.Cells.{Near, Ready}
 
 -- a rule that asks that two numbers are equal, and the rules after it
 equal : (a b : ℕ) (m : Bool) → T (not (not (eqb a b)) && m) → (a ≡ b) × T m

@@ -1,7 +1,6 @@
 -- A run: what follows of the number that it answers, and that the pack of an accepted one is merged. Assumes nothing.
 use mathlib.Core.Path.{◌≡◌, refl, sym, ap, subst, ◌∙◌}
 use mathlib.Core.Bool.{Bool, true, false, cond}
-use mathlib.Core.Option.{Option}
 use mathlib.Core.List.{List, [], ◌++◌}
 use Prim.Native.Nat.{ℕ, ◌*◌, ◌≤◌}
 use native.Mathlib.Omega.{arith}
@@ -13,11 +12,9 @@ use mir.Syntax.{w64}
 use mir.Val.{Fits}
 use Rattle.definitions.specs.Lists.{at, fold_at}
 use Rattle.definitions.specs.Floats.{zero_f}
-use Rattle.definitions.specs.Bins as definitions
 use Rattle.definitions.specs.Bins.{bins}
 use Rattle.definitions.specs.Blocks as blocks
 use Rattle.definitions.specs.Blocks.{CartesianBlock}
-use Rattle.definitions.specs.Reducer as kinds
 use Rattle.definitions.specs.Reducer.{kind_size}
 use Rattle.definitions.specs.Run as run
 use Rattle.definitions.specs.Run.{Run, offset_at, scratch, merged}
@@ -28,7 +25,7 @@ use Rattle.reducer.specs.declared.PairOperation.{PairOperation}
 use Rattle.reducer.specs.declared.BuiltEdges.{BuiltEdges}
 use Rattle.reducer.specs.declared.Reducer.{Reducer}
 use Rattle.reducer.specs.declared.Reducer.TheVariants.{ComponentSumHistogram}
-use Rattle.reducer.specs.Readings.{op_of, edges_of, kind_of}
+use Rattle.reducer.specs.Readings.{edges_of, kind_of}
 use Rattle.reducer.specs.Consume.{made_edges, made, built_bins, reducer_size}
 use Rattle.reducer.proofs.Placewise.{made_bins, made_size}
 use Rattle.edge_table.specs.Tabled.{Usable, UsableValues}

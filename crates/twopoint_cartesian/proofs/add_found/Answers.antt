@@ -1,9 +1,7 @@
 use borrow.Author.Rules.{rules}
-use mathlib.Core.Path.{◌≡◌, refl}
-use Prim.Native.Nat.{◌≤◌, ◌-◌, ◌*◌, ◌+◌}
+use mathlib.Core.Path.{refl}
+use Prim.Native.Nat.{◌*◌}
 use native.Mathlib.Omega.{arith}
-use lib.ListN.{length}
-use Rattle.twopoint_cartesian.specs.Cells.{rows_weighted}
 use Rattle.twopoint_cartesian.proofs.Rows.{row_end, part_length, weighted_start, weighted_turn, weighted_done}
 use Rattle.twopoint_cartesian.proofs.add_found.Goals as goal
 
@@ -11,25 +9,25 @@ pub loop-r-init : goal.loop-r-init
 loop-r-init c = (omega arith, refl, search weighted_start)
 
 pub overflow_mul-first : goal.overflow_mul-first
-overflow_mul-first c = omega (arith, s, c.requires.fact_3, row_end c.loop-r.r c.args.m c.args.n c.loop-r-test.true)
+overflow_mul-first c = omega (arith, c.well_formed, c.ranges, c.requires.fact_3, row_end c.loop-r.r c.args.m c.args.n c.loop-r-test.true)
 
 pub overflow_mul-r : goal.overflow_mul-r
-overflow_mul-r c = omega (arith, s, c.requires.fact_1.row c.loop-r.r c.loop-r-test.true)
+overflow_mul-r c = omega (arith, c.well_formed, c.ranges, c.requires.fact_1.row c.loop-r.r c.loop-r-test.true)
 
 pub overflow_add-i : goal.overflow_add-i
-overflow_add-i c = omega (arith, s, c.requires.fact_1.row c.loop-r.r c.loop-r-test.true)
+overflow_add-i c = omega (arith, c.well_formed, c.ranges, c.requires.fact_1.row c.loop-r.r c.loop-r-test.true)
 
 pub overflow_mul-r-in-loop-r : goal.overflow_mul-r-in-loop-r
-overflow_mul-r-in-loop-r c = omega (arith, s, c.requires.fact_2.row c.loop-r.r c.loop-r-test.true)
+overflow_mul-r-in-loop-r c = omega (arith, c.well_formed, c.ranges, c.requires.fact_2.row c.loop-r.r c.loop-r-test.true)
 
 pub overflow_add-j : goal.overflow_add-j
-overflow_add-j c = omega (arith, s, c.requires.fact_2.row c.loop-r.r c.loop-r-test.true)
+overflow_add-j c = omega (arith, c.well_formed, c.ranges, c.requires.fact_2.row c.loop-r.r c.loop-r-test.true)
 
 pub overflow_add-first : goal.overflow_add-first
-overflow_add-first c = omega (arith, s, c.requires.fact_3, row_end c.loop-r.r c.args.m c.args.n c.loop-r-test.true)
+overflow_add-first c = omega (arith, c.well_formed, c.ranges, c.requires.fact_3, row_end c.loop-r.r c.args.m c.args.n c.loop-r-test.true)
 
 pub offset_bounds-found-first : goal.offset_bounds-found-first
-offset_bounds-found-first c = omega (arith, s, c.well-formed, c.requires.fact_3, row_end c.loop-r.r c.args.m c.args.n c.loop-r-test.true)
+offset_bounds-found-first c = omega (arith, c.well_formed, c.requires.fact_3, row_end c.loop-r.r c.args.m c.args.n c.loop-r-test.true)
 
 pub slice_bounds-add_weights-end : goal.slice_bounds-add_weights-end
 slice_bounds-add_weights-end c = omega (arith, c.requires.fact_3, row_end c.loop-r.r c.args.m c.args.n c.loop-r-test.true)

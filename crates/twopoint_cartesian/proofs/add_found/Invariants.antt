@@ -1,10 +1,7 @@
-use borrow.Author.Rules.{rules}
-use mathlib.Core.Path.{◌≡◌, refl}
-use Prim.Native.Nat.{◌≤◌, ◌-◌, ◌*◌, ◌+◌}
-use native.Mathlib.Omega.{arith}
+use mathlib.Core.Path.{◌≡◌}
+use Prim.Native.Nat.{◌≤◌, ◌-◌}
 use lib.ListN.{length}
 use Rattle.twopoint_cartesian.specs.Cells.{rows_weighted}
-use Rattle.twopoint_cartesian.proofs.Rows.{row_end, part_length, weighted_start, weighted_turn, weighted_done}
 use Rattle.twopoint_cartesian.proofs.add_found.Given as goal
 
 abbrev pub invariant-loop-r : goal.invariant-loop-r

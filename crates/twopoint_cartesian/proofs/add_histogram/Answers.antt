@@ -2,7 +2,6 @@ use native.Mathlib.Omega.{arith}
 use Rattle.twopoint_cartesian.proofs.Cells.{reach_near, placed_a, placed_b, answers_a, answers_b, cells_done}
 use Rattle.twopoint_cartesian.proofs.Rows.{offset_room, binned_cleared}
 use Rattle.twopoint_cartesian.proofs.Merge.{room_sized, state_merged_law}
-use borrow.Author.Rules.{rules}
 use Rattle.twopoint_cartesian.proofs.add_histogram.Goals as goal
 
 pub first_of_a-i-requires-clause-fact_1 : goal.first_of_a-i-requires-clause-fact_1

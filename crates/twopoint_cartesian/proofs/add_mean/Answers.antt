@@ -3,7 +3,6 @@ use Rattle.twopoint_cartesian.proofs.Cells.{axes_near}
 use Rattle.twopoint_cartesian.proofs.Walk.{found_room, found_added, none_added}
 use Rattle.twopoint_cartesian.proofs.Means.{mean_merged}
 use Rattle.twopoint_cartesian.specs.Readings.{axes_of}
-use borrow.Author.Rules.{rules}
 use Rattle.twopoint_cartesian.proofs.add_mean.Goals as goal
 
 pub bin_of_offset-requires-clause-all_near_1 : goal.bin_of_offset-requires-clause-all_near_1
@@ -19,10 +18,10 @@ pub bin_of_offset-requires-clause-tabled : goal.bin_of_offset-requires-clause-ta
 bin_of_offset-requires-clause-tabled c = c.requires.reducer_value_2
 
 pub merge_mean-requires : goal.merge_mean-requires
-merge_mean-requires c = found_room c.args.setup _ _ _ c.bin_of_offset.ensures _ c.bin-1.given.1 _ _ _ c.requires.reducer_value_3
+merge_mean-requires c = found_room c.args.setup _ _ _ c.bin_of_offset.ensures _ c.in-At.is _ _ _ c.requires.reducer_value_3
 
 pub returns-in-At : goal.returns-in-At
-returns-in-At c = found_added c.args.setup _ _ _ c.bin_of_offset.ensures _ c.bin-1.given.1 _ _ _ _ _ _ _ _ refl (mean_merged _ _ c.requires.reducer_value_1 _ _ c.requires.ready_1 c.requires.ready_2 _ _ _ _ _ c.mean_of_offset-m.ensures c.merge_mean.ensures)
+returns-in-At c = found_added c.args.setup _ _ _ c.bin_of_offset.ensures _ c.in-At.is _ _ _ _ _ _ _ _ refl (mean_merged _ _ c.requires.reducer_value_1 _ _ c.requires.ready_1 c.requires.ready_2 _ _ _ _ _ c.mean_of_offset-m.ensures c.merge_mean.ensures)
 
 pub returns-in-None : goal.returns-in-None
-returns-in-None c = none_added _ _ _ _ c.bin_of_offset.ensures c.enum_told-1.given.1 _ _ _ _ _ _ _ refl
+returns-in-None c = none_added _ _ _ _ c.bin_of_offset.ensures c.in-None.is _ _ _ _ _ _ _ refl

@@ -3,7 +3,6 @@ use Rattle.twopoint_cartesian.proofs.Cells.{axes_near}
 use Rattle.twopoint_cartesian.proofs.Walk.{found_room, found_added, none_added}
 use Rattle.twopoint_cartesian.proofs.Rows.{binned}
 use Rattle.twopoint_cartesian.specs.Readings.{axes_of}
-use borrow.Author.Rules.{rules}
 use Rattle.twopoint_cartesian.proofs.add_offset.Goals as goal
 
 pub bin_of_offset-requires-clause-all_near_1 : goal.bin_of_offset-requires-clause-all_near_1
@@ -34,10 +33,10 @@ pub add_histogram-requires-clause-binned_2 : goal.add_histogram-requires-clause-
 add_histogram-requires-clause-binned_2 c = c.requires.wide
 
 pub add_histogram-requires-clause-binned_3 : goal.add_histogram-requires-clause-binned_3
-add_histogram-requires-clause-binned_3 c = found_room c.args.setup _ _ _ c.bin_of_offset.ensures _ c.bin-1.given.1 _ _ _ c.requires.roomy
+add_histogram-requires-clause-binned_3 c = found_room c.args.setup _ _ _ c.bin_of_offset.ensures _ c.in-At.is _ _ _ c.requires.roomy
 
 pub returns-in-At : goal.returns-in-At
-returns-in-At c = found_added _ _ _ _ c.bin_of_offset.ensures _ c.bin-1.given.1 _ _ _ _ _ _ _ _ refl c.add_histogram.ensures
+returns-in-At c = found_added _ _ _ _ c.bin_of_offset.ensures _ c.in-At.is _ _ _ _ _ _ _ _ refl c.add_histogram.ensures
 
 pub returns-in-None : goal.returns-in-None
-returns-in-None c = none_added _ _ _ _ c.bin_of_offset.ensures c.enum_told-1.given.1 _ _ _ _ _ _ _ refl
+returns-in-None c = none_added _ _ _ _ c.bin_of_offset.ensures c.in-None.is _ _ _ _ _ _ _ refl

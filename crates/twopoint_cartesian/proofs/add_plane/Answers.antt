@@ -1,10 +1,7 @@
 use borrow.Author.Rules.{rules}
-use mathlib.Core.Path.{◌≡◌, refl, sym, ◌∙◌}
-use Prim.Native.Nat.{◌≤◌, ◌-◌, ◌*◌, ◌+◌}
+use mathlib.Core.Path.{refl, sym}
 use native.Mathlib.Omega.{arith}
-use lib.ListN.{length}
 use lib.Seq.{length-take-le}
-use Rattle.twopoint_cartesian.specs.Cells.{fields, plane_added}
 use Rattle.twopoint_cartesian.proofs.Loops.{plane_start, plane_turn, plane_done}
 use Rattle.twopoint_cartesian.proofs.Rows.{binned_same, room_of, plane_part}
 use Rattle.twopoint_cartesian.proofs.add_plane.Goals as goal
@@ -16,19 +13,19 @@ pub rows_at_once-m-requires : goal.rows_at_once-m-requires
 rows_at_once-m-requires c = (omega (arith, c.loop-y-test.true), omega (arith, c.requires.fact_4.least))
 
 pub overflow_mul-c : goal.overflow_mul-c
-overflow_mul-c c = omega (arith, c.well-formed, room_of _ _ _ _ _ c.rows_at_once-m.ensures.2 c.requires.fact_4)
+overflow_mul-c c = omega (arith, c.well_formed, room_of _ _ _ _ _ c.rows_at_once-m.ensures.2 c.requires.fact_4)
 
 pub overflow_mul-y : goal.overflow_mul-y
-overflow_mul-y c = omega (arith, s, c.requires.fact_1.row c.loop-y.y c.loop-y-test.true)
+overflow_mul-y c = omega (arith, c.well_formed, c.ranges, c.requires.fact_1.row c.loop-y.y c.loop-y-test.true)
 
 pub overflow_add-i : goal.overflow_add-i
-overflow_add-i c = omega (arith, s, c.requires.fact_1.row c.loop-y.y c.loop-y-test.true)
+overflow_add-i c = omega (arith, c.well_formed, c.ranges, c.requires.fact_1.row c.loop-y.y c.loop-y-test.true)
 
 pub overflow_mul-y-in-loop-y : goal.overflow_mul-y-in-loop-y
-overflow_mul-y-in-loop-y c = omega (arith, s, c.requires.fact_2.row c.loop-y.y c.loop-y-test.true)
+overflow_mul-y-in-loop-y c = omega (arith, c.well_formed, c.ranges, c.requires.fact_2.row c.loop-y.y c.loop-y-test.true)
 
 pub overflow_add-j : goal.overflow_add-j
-overflow_add-j c = omega (arith, s, c.requires.fact_2.row c.loop-y.y c.loop-y-test.true)
+overflow_add-j c = omega (arith, c.well_formed, c.ranges, c.requires.fact_2.row c.loop-y.y c.loop-y-test.true)
 
 pub slice_bounds-add_rows-end : goal.slice_bounds-add_rows-end
 slice_bounds-add_rows-end c = omega (arith, c.loop-y.invariant.1, room_of _ _ _ _ _ c.rows_at_once-m.ensures.2 c.requires.fact_4)
@@ -42,19 +39,33 @@ slice_bounds-add_rows-end-in-loop-y-2 c = omega (arith, c.loop-y.invariant.2, c.
 pub slice_bounds-add_rows-end-in-loop-y-3 : goal.slice_bounds-add_rows-end-in-loop-y-3
 slice_bounds-add_rows-end-in-loop-y-3 c = sym (length-take-le _ _ (omega (arith, c.loop-y.invariant.2, c.requires.fact_4.found, room_of _ _ _ _ _ c.rows_at_once-m.ensures.2 c.requires.fact_4)))
 
-pub add_rows-requires : goal.add_rows-requires
-add_rows-requires c = let t = c.loop-y in let h = c.loop-y-test.true in let m = c.rows_at_once-m.ensures in let l = room_of _ _ _ _ _ m.2 c.requires.fact_4 in (
-  plane_part _ _ _ _ _ t.y _ h (omega (arith, m, h)) c.requires.fact_1,
-  (
-    plane_part _ _ _ _ _ t.y _ h (omega (arith, m, h)) c.requires.fact_2,
-    (
-      binned_same _ _ _ _ _ _ t.invariant.3 c.requires.fact_3,
-      (length-take-le _ t.values (omega (arith, t.invariant.1, l)), length-take-le _ t.found (omega (arith, t.invariant.2, c.requires.fact_4.found, l))),
-    ),
-  ),
+pub add_rows-requires-clause-plane_fits_1 : goal.add_rows-requires-clause-plane_fits_1
+add_rows-requires-clause-plane_fits_1 c =
+    let t = c.loop-y in let h = c.loop-y-test.true in let m = c.rows_at_once-m.ensures in let l = room_of _ _ _ _ _ m.2 c.requires.fact_4 in
+    plane_part _ _ _ _ _ t.y _ h (omega (arith, m, h)) c.requires.fact_1
+
+pub add_rows-requires-clause-plane_fits_2 : goal.add_rows-requires-clause-plane_fits_2
+add_rows-requires-clause-plane_fits_2 c =
+    let t = c.loop-y in let h = c.loop-y-test.true in let m = c.rows_at_once-m.ensures in let l = room_of _ _ _ _ _ m.2 c.requires.fact_4 in
+    plane_part _ _ _ _ _ t.y _ h (omega (arith, m, h)) c.requires.fact_2
+
+pub add_rows-requires-clause-plane_fits_3 : goal.add_rows-requires-clause-plane_fits_3
+add_rows-requires-clause-plane_fits_3 c =
+    let t = c.loop-y in let h = c.loop-y-test.true in let m = c.rows_at_once-m.ensures in let l = room_of _ _ _ _ _ m.2 c.requires.fact_4 in
+    binned_same _ _ _ _ _ _ t.invariant.3 c.requires.fact_3
+
+pub add_rows-requires-clause-values_len_1 : goal.add_rows-requires-clause-values_len_1
+add_rows-requires-clause-values_len_1 c =
+    let t = c.loop-y in let h = c.loop-y-test.true in let m = c.rows_at_once-m.ensures in let l = room_of _ _ _ _ _ m.2 c.requires.fact_4 in
+    length-take-le _ t.values (omega (arith, t.invariant.1, l))
+
+pub add_rows-requires-clause-values_len_2 : goal.add_rows-requires-clause-values_len_2
+add_rows-requires-clause-values_len_2 c =
+    let t = c.loop-y in let h = c.loop-y-test.true in let m = c.rows_at_once-m.ensures in let l = room_of _ _ _ _ _ m.2 c.requires.fact_4 in
+    length-take-le _ t.found (omega (arith, t.invariant.2, c.requires.fact_4.found, l))
 
 pub overflow_add-y : goal.overflow_add-y
-overflow_add-y c = omega (arith, s, c.rows_at_once-m.ensures, c.loop-y-test.true)
+overflow_add-y c = omega (arith, c.well_formed, c.ranges, c.rows_at_once-m.ensures, c.loop-y-test.true)
 
 pub loop-y-smaller : goal.loop-y-smaller
 loop-y-smaller c = omega (arith, c.rows_at_once-m.ensures, c.loop-y-test.true)
@@ -66,6 +77,7 @@ loop-y-preserved c = let t = c.loop-y in let m = c.rows_at_once-m.ensures in let
   search rules,
   search rules,
   plane_turn c.args.setup c.args.value_edges.now _ _ _ _ _ _ _ c.args.k _ t.y t.state c.rows_at_once-m.result _ (omega (arith, m, h)) c.add_rows.ensures t.invariant.4,
+)
 
 pub returns : goal.returns
 returns c = plane_done c.args.setup c.args.value_edges.now _ _ _ _ _ _ _ c.args.k _ c.loop-y.y _ (omega arith) c.loop-y.invariant.4

@@ -1,12 +1,7 @@
-use borrow.Author.Rules.{rules}
-use mathlib.Core.Path.{◌≡◌, refl, sym, ◌∙◌}
-use Prim.Native.Nat.{◌≤◌, ◌-◌, ◌*◌, ◌+◌}
-use native.Mathlib.Omega.{arith}
+use mathlib.Core.Path.{◌≡◌}
+use Prim.Native.Nat.{◌≤◌, ◌-◌}
 use lib.ListN.{length}
-use lib.Seq.{length-take-le}
 use Rattle.twopoint_cartesian.specs.Cells.{fields, plane_added}
-use Rattle.twopoint_cartesian.proofs.Loops.{plane_start, plane_turn, plane_done}
-use Rattle.twopoint_cartesian.proofs.Rows.{binned_same, room_of, plane_part}
 use Rattle.twopoint_cartesian.proofs.add_plane.Given as goal
 
 abbrev pub invariant-loop-y : goal.invariant-loop-y

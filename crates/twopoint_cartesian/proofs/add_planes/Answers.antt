@@ -1,9 +1,6 @@
 use borrow.Author.Rules.{rules}
-use mathlib.Core.Path.{◌≡◌, refl}
-use Prim.Native.Nat.{◌≤◌, ◌-◌}
+use mathlib.Core.Path.{refl}
 use native.Mathlib.Omega.{arith}
-use lib.ListN.{length}
-use Rattle.twopoint_cartesian.specs.Cells.{fields, block_added, RowsRoom}
 use Rattle.twopoint_cartesian.proofs.Loops.{block_start, block_turn, block_done}
 use Rattle.twopoint_cartesian.proofs.Rows.{binned_same, room_rows, rows_room_same}
 use Rattle.twopoint_cartesian.proofs.add_planes.Goals as goal
@@ -15,16 +12,16 @@ pub loop-z-init : goal.loop-z-init
 loop-z-init c = (omega arith, refl, refl, room_rows _ _ _ c.requires.fact_4, refl, search block_start)
 
 pub overflow_mul-z : goal.overflow_mul-z
-overflow_mul-z c = omega (arith, s, c.requires.fact_1.plane c.loop-z.z c.loop-z-test.true)
+overflow_mul-z c = omega (arith, c.well_formed, c.ranges, c.requires.fact_1.plane c.loop-z.z c.loop-z-test.true)
 
 pub overflow_add-i : goal.overflow_add-i
-overflow_add-i c = omega (arith, s, c.requires.fact_1.plane c.loop-z.z c.loop-z-test.true)
+overflow_add-i c = omega (arith, c.well_formed, c.ranges, c.requires.fact_1.plane c.loop-z.z c.loop-z-test.true)
 
 pub overflow_mul-z-in-loop-z : goal.overflow_mul-z-in-loop-z
-overflow_mul-z-in-loop-z c = omega (arith, s, c.requires.fact_2.plane c.loop-z.z c.loop-z-test.true)
+overflow_mul-z-in-loop-z c = omega (arith, c.well_formed, c.ranges, c.requires.fact_2.plane c.loop-z.z c.loop-z-test.true)
 
 pub overflow_add-j : goal.overflow_add-j
-overflow_add-j c = omega (arith, s, c.requires.fact_2.plane c.loop-z.z c.loop-z-test.true)
+overflow_add-j c = omega (arith, c.well_formed, c.ranges, c.requires.fact_2.plane c.loop-z.z c.loop-z-test.true)
 
 pub add_plane-requires-clause-fact_1 : goal.add_plane-requires-clause-fact_1
 add_plane-requires-clause-fact_1 c =

@@ -1,11 +1,7 @@
-use borrow.Author.Rules.{rules}
-use mathlib.Core.Path.{◌≡◌, refl}
+use mathlib.Core.Path.{◌≡◌}
 use Prim.Native.Nat.{◌≤◌, ◌-◌}
-use native.Mathlib.Omega.{arith}
 use lib.ListN.{length}
 use Rattle.twopoint_cartesian.specs.Cells.{fields, block_added, RowsRoom}
-use Rattle.twopoint_cartesian.proofs.Loops.{block_start, block_turn, block_done}
-use Rattle.twopoint_cartesian.proofs.Rows.{binned_same, room_rows, rows_room_same}
 use Rattle.twopoint_cartesian.proofs.add_planes.Given as goal
 
 abbrev pub invariant-loop-z : goal.invariant-loop-z

@@ -25,4 +25,4 @@ add_found-requires-clause-fact_3 c = omega (arith, c.requires.values_len_2, c.bi
 
 pub returns : goal.returns
 returns c = rows_done c.args.setup c.args.value_edges.now _ _ c.args.edges c.args.table (length c.args.state.now) c.requires.plane_fits_3 c.args.hints.now c.args.i c.args.j c.args.sa c.args.sb c.args.n c.args.m _ c.args.found.now _
-    c.gather_rows.ensures (omega (arith, c.requires.values_len_1, c.gather_rows.auto)) c.requires.values_len_2 c.slice_known-4-1.given c.bins_of.ensures c.args.state.now _ refl c.add_found.ensures
+    c.gather_rows.ensures (omega (arith, c.requires.values_len_1, c.gather_rows.auto)) c.requires.values_len_2 (search rules) c.bins_of.ensures c.args.state.now _ refl c.add_found.ensures

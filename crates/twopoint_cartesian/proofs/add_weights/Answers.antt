@@ -1,9 +1,6 @@
 use borrow.Author.Rules.{rules}
-use mathlib.Core.Path.{◌≡◌, refl}
-use Prim.Native.Nat.{◌≤◌, ◌-◌}
+use mathlib.Core.Path.{refl}
 use native.Mathlib.Omega.{arith}
-use lib.ListN.{length}
-use Rattle.twopoint_cartesian.specs.Cells.{weights_added}
 use Rattle.twopoint_cartesian.proofs.Rows.{weights_start, weights_turn, weights_over}
 use Rattle.twopoint_cartesian.proofs.add_weights.Goals as goal
 

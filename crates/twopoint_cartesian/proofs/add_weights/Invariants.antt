@@ -1,10 +1,7 @@
-use borrow.Author.Rules.{rules}
-use mathlib.Core.Path.{◌≡◌, refl}
+use mathlib.Core.Path.{◌≡◌}
 use Prim.Native.Nat.{◌≤◌, ◌-◌}
-use native.Mathlib.Omega.{arith}
 use lib.ListN.{length}
 use Rattle.twopoint_cartesian.specs.Cells.{weights_added}
-use Rattle.twopoint_cartesian.proofs.Rows.{weights_start, weights_turn, weights_over}
 use Rattle.twopoint_cartesian.proofs.add_weights.Given as goal
 
 abbrev pub invariant-loop-x : goal.invariant-loop-x

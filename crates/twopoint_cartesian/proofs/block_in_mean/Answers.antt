@@ -1,8 +1,4 @@
-use mathlib.Core.Path.{◌≡◌, refl}
-use Prim.Native.Nat.{◌≤◌, ◌-◌}
 use native.Mathlib.Omega.{arith}
-use borrow.Author.Rules.{rules}
-use Rattle.twopoint_cartesian.specs.Cells.{fields, block_in_mean}
 use Rattle.twopoint_cartesian.proofs.Means.{mean_block_start, mean_block_turn, mean_block_done}
 use Rattle.twopoint_cartesian.proofs.block_in_mean.Goals as goal
 
@@ -10,16 +6,16 @@ pub loop-z-init : goal.loop-z-init
 loop-z-init c = (omega arith, search mean_block_start)
 
 pub overflow_mul-z : goal.overflow_mul-z
-overflow_mul-z c = omega (arith, s, c.requires.fact_1.plane c.loop-z.z c.loop-z-test.true)
+overflow_mul-z c = omega (arith, c.well_formed, c.ranges, c.requires.fact_1.plane c.loop-z.z c.loop-z-test.true)
 
 pub overflow_add-i : goal.overflow_add-i
-overflow_add-i c = omega (arith, s, c.requires.fact_1.plane c.loop-z.z c.loop-z-test.true)
+overflow_add-i c = omega (arith, c.well_formed, c.ranges, c.requires.fact_1.plane c.loop-z.z c.loop-z-test.true)
 
 pub overflow_mul-z-in-loop-z : goal.overflow_mul-z-in-loop-z
-overflow_mul-z-in-loop-z c = omega (arith, s, c.requires.fact_2.plane c.loop-z.z c.loop-z-test.true)
+overflow_mul-z-in-loop-z c = omega (arith, c.well_formed, c.ranges, c.requires.fact_2.plane c.loop-z.z c.loop-z-test.true)
 
 pub overflow_add-j : goal.overflow_add-j
-overflow_add-j c = omega (arith, s, c.requires.fact_2.plane c.loop-z.z c.loop-z-test.true)
+overflow_add-j c = omega (arith, c.well_formed, c.ranges, c.requires.fact_2.plane c.loop-z.z c.loop-z-test.true)
 
 pub plane_in_mean-m-requires-clause-fact_1 : goal.plane_in_mean-m-requires-clause-fact_1
 plane_in_mean-m-requires-clause-fact_1 c = c.requires.fact_1.plane c.loop-z.z c.loop-z-test.true

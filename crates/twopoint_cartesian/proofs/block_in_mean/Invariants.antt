@@ -1,9 +1,6 @@
-use mathlib.Core.Path.{◌≡◌, refl}
+use mathlib.Core.Path.{◌≡◌}
 use Prim.Native.Nat.{◌≤◌, ◌-◌}
-use native.Mathlib.Omega.{arith}
-use borrow.Author.Rules.{rules}
 use Rattle.twopoint_cartesian.specs.Cells.{fields, block_in_mean}
-use Rattle.twopoint_cartesian.proofs.Means.{mean_block_start, mean_block_turn, mean_block_done}
 use Rattle.twopoint_cartesian.proofs.block_in_mean.Given as goal
 
 abbrev pub invariant-loop-z : goal.invariant-loop-z

@@ -1,6 +1,5 @@
 use native.Mathlib.Omega.{arith}
 use Rattle.twopoint_cartesian.proofs.Cells.{z_product, y_product, x_product}
-use borrow.Author.Rules.{rules}
 use Rattle.twopoint_cartesian.proofs.cell_index.Goals as goal
 
 pub overflow_mul-result : goal.overflow_mul-result

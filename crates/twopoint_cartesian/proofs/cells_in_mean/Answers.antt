@@ -1,5 +1,4 @@
 use Rattle.twopoint_cartesian.proofs.Means.{cells_in_mean_law}
-use borrow.Author.Rules.{rules}
 use Rattle.twopoint_cartesian.proofs.cells_in_mean.Goals as goal
 
 pub returns : goal.returns

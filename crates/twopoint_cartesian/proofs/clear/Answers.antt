@@ -1,12 +1,7 @@
-use mathlib.Core.Path.{◌≡◌, refl}
-use Prim.Native.Nat.{◌≤◌, ◌-◌}
+use mathlib.Core.Path.{refl}
 use native.Mathlib.Omega.{arith}
-use lib.ListN.{length, length-set}
-use borrow.Author.Rules.{rules}
-use mathlib.Core.Bool.{false}
+use lib.ListN.{length-set}
 use lib.Ieee.{of_bits}
-use Rattle.definitions.specs.Lists.{overwritten}
-use Rattle.definitions.specs.Floats.{zero_f}
 use Rattle.twopoint_cartesian.proofs.Merge.{clear_turn, clear_done}
 use Rattle.twopoint_cartesian.proofs.clear.Goals as goal
 

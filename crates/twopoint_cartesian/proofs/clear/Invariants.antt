@@ -1,13 +1,9 @@
-use mathlib.Core.Path.{◌≡◌, refl}
+use mathlib.Core.Path.{◌≡◌}
 use Prim.Native.Nat.{◌≤◌, ◌-◌}
-use native.Mathlib.Omega.{arith}
-use lib.ListN.{length, length-set}
-use borrow.Author.Rules.{rules}
+use lib.ListN.{length}
 use mathlib.Core.Bool.{false}
-use lib.Ieee.{of_bits}
 use Rattle.definitions.specs.Lists.{overwritten}
 use Rattle.definitions.specs.Floats.{zero_f}
-use Rattle.twopoint_cartesian.proofs.Merge.{clear_turn, clear_done}
 use Rattle.twopoint_cartesian.proofs.clear.Given as goal
 
 abbrev pub invariant-loop-e : goal.invariant-loop-e

@@ -1,5 +1,4 @@
 use Rattle.twopoint_cartesian.proofs.Rows.{datum_is}
-use borrow.Author.Rules.{rules}
 use Rattle.twopoint_cartesian.proofs.datum_at.Goals as goal
 
 pub returns : goal.returns

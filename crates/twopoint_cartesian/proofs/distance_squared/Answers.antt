@@ -1,5 +1,4 @@
 use Rattle.twopoint_cartesian.proofs.Distance.{near_back, distance_is}
-use borrow.Author.Rules.{rules}
 use Rattle.twopoint_cartesian.proofs.distance_squared.Goals as goal
 
 pub displaced_squared-z-requires-clause-fact_1 : goal.displaced_squared-z-requires-clause-fact_1

@@ -1,14 +1,7 @@
-use mathlib.Core.Path.{◌≡◌, refl}
-use mathlib.Core.List.{[]}
-use mathlib.Core.Option.{some}
-use Prim.Native.Nat.{◌≤◌, ◌<◌, ◌-◌}
+use mathlib.Core.Path.{refl}
 use native.Mathlib.Omega.{arith}
-use borrow.Author.Rules.{rules}
-use lib.ListN.{length, drop, get_elem?}
-use Rattle.idx_3d_offset.specs.Offsets.{idx_of}
-use Rattle.spatial.specs.Readings.{block_of, width_of}
 use Rattle.twopoint_cartesian.specs.Readings.{axes_of}
-use Rattle.twopoint_cartesian.specs.Cells.{seq_for, offsets_added}
+use Rattle.twopoint_cartesian.specs.Cells.{seq_for}
 use Rattle.twopoint_cartesian.proofs.Walk.{walk_reach, walk_next, walk_turn, walk_done, roomy_same}
 use Rattle.twopoint_cartesian.proofs.fill_means.Goals as goal
 
@@ -50,11 +43,11 @@ next_offset-o-requires-clause-fact_3 c = walk_reach _ _ _ c.requires.ready_3 _ _
 
 pub loop-preserved : goal.loop-preserved
 loop-preserved c = let h = c.loop-test.true in (
-      omega (arith, h),
-      omega (arith, c.add_mean.auto, c.loop.invariant.1),
-      walk_next _ _ _ c.requires.ready_3 _ _ c.seq_len-n.ensures h _ c.loop.invariant.2 _ c.next_offset-o.ensures,
-      walk_turn _ _ _ _ _ _ _ (seq_for c.args.auto (axes_of c.args.a) (axes_of c.args.b)) _ c.loop.counter _ _ (c.loop.invariant.2 h) _ _ refl c.add_mean.ensures c.loop.invariant.3,
-    )
+  omega (arith, h),
+  omega (arith, c.add_mean.auto, c.loop.invariant.1),
+  walk_next _ _ _ c.requires.ready_3 _ _ c.seq_len-n.ensures h _ c.loop.invariant.2 _ c.next_offset-o.ensures,
+  walk_turn _ _ _ _ _ _ _ (seq_for c.args.auto (axes_of c.args.a) (axes_of c.args.b)) _ c.loop.counter _ _ (c.loop.invariant.2 h) _ _ refl c.add_mean.ensures c.loop.invariant.3,
+)
 
 pub returns : goal.returns
 returns c = walk_done _ _ _ _ _ _ _ (seq_for c.args.auto (axes_of c.args.a) (axes_of c.args.b)) _ c.loop.counter _ (omega arith) c.loop.invariant.3

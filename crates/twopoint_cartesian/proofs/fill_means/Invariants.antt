@@ -1,15 +1,12 @@
-use mathlib.Core.Path.{◌≡◌, refl}
+use mathlib.Core.Path.{◌≡◌}
 use mathlib.Core.List.{[]}
 use mathlib.Core.Option.{some}
 use Prim.Native.Nat.{◌≤◌, ◌<◌, ◌-◌}
-use native.Mathlib.Omega.{arith}
-use borrow.Author.Rules.{rules}
 use lib.ListN.{length, drop, get_elem?}
 use Rattle.idx_3d_offset.specs.Offsets.{idx_of}
 use Rattle.spatial.specs.Readings.{block_of, width_of}
 use Rattle.twopoint_cartesian.specs.Readings.{axes_of}
 use Rattle.twopoint_cartesian.specs.Cells.{seq_for, offsets_added}
-use Rattle.twopoint_cartesian.proofs.Walk.{walk_reach, walk_next, walk_turn, walk_done, roomy_same}
 use Rattle.twopoint_cartesian.proofs.fill_means.Given as goal
 
 abbrev pub invariant-loop : goal.invariant-loop

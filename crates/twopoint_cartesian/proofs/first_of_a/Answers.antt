@@ -2,7 +2,6 @@ use mathlib.Core.List.{[]}
 use Rattle.spatial.specs.Readings.{block_of}
 use Rattle.twopoint_cartesian.proofs.Cells.{start_placed, start_index}
 use Rattle.definitions.specs.Blocks.{start_a}
-use borrow.Author.Rules.{rules}
 use Rattle.twopoint_cartesian.proofs.first_of_a.Goals as goal
 
 pub cell_index-requires : goal.cell_index-requires

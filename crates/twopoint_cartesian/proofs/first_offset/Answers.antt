@@ -1,7 +1,6 @@
 use Rattle.twopoint_cartesian.proofs.Next.{lowest_all}
 use Rattle.twopoint_cartesian.proofs.Walk.{first_auto, first_cross}
 use Rattle.twopoint_cartesian.specs.Readings.{axes_of}
-use borrow.Author.Rules.{rules}
 use Rattle.twopoint_cartesian.proofs.first_offset.Goals as goal
 
 pub returns-then-auto : goal.returns-then-auto

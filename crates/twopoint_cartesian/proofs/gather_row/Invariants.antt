@@ -1,11 +1,8 @@
-use borrow.Author.Rules.{rules}
-use mathlib.Core.Path.{◌≡◌, refl}
-use Prim.Native.Nat.{◌≤◌, ◌-◌, ◌+◌}
-use native.Mathlib.Omega.{arith}
-use lib.ListN.{length, length-set}
+use mathlib.Core.Path.{◌≡◌}
+use Prim.Native.Nat.{◌≤◌, ◌-◌}
+use lib.ListN.{length}
 use Rattle.definitions.specs.Lists.{overwritten}
 use Rattle.twopoint_cartesian.specs.Cells.{fields, row_value}
-use Rattle.twopoint_cartesian.proofs.Rows.{value_turn, values_done}
 use Rattle.twopoint_cartesian.proofs.gather_row.Given as goal
 
 abbrev pub invariant-loop-x : goal.invariant-loop-x

@@ -1,10 +1,7 @@
-use borrow.Author.Rules.{rules}
-use mathlib.Core.Path.{◌≡◌, refl, ◌∙◌}
-use Prim.Native.Nat.{◌≤◌, ◌-◌, ◌*◌, ◌+◌}
-use native.Mathlib.Omega.{arith}
+use mathlib.Core.Path.{◌≡◌}
+use Prim.Native.Nat.{◌≤◌, ◌-◌}
 use lib.ListN.{length}
 use Rattle.twopoint_cartesian.specs.Cells.{fields, Gathered}
-use Rattle.twopoint_cartesian.proofs.Rows.{row_end, part_length, gathered_none, gathered_length, gathered_turn, gathered_done}
 use Rattle.twopoint_cartesian.proofs.gather_rows.Given as goal
 
 abbrev pub invariant-loop-r : goal.invariant-loop-r

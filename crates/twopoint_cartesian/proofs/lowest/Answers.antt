@@ -1,5 +1,4 @@
 use Rattle.twopoint_cartesian.proofs.Next.{lowest_fits, lowest_is}
-use borrow.Author.Rules.{rules}
 use Rattle.twopoint_cartesian.proofs.lowest.Goals as goal
 
 pub overflow_sub-result : goal.overflow_sub-result

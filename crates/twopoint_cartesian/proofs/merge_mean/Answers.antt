@@ -1,7 +1,6 @@
 use native.Mathlib.Omega.{arith}
 use lib.ListN.{length-set}
 use Rattle.twopoint_cartesian.proofs.Merge.{mean_place, mean_stored}
-use borrow.Author.Rules.{rules}
 use Rattle.twopoint_cartesian.proofs.merge_mean.Goals as goal
 
 pub bounds-scratch-weight : goal.bounds-scratch-weight

@@ -1,9 +1,6 @@
-use mathlib.Core.Path.{◌≡◌, refl}
-use Prim.Native.Nat.{◌≤◌, ◌-◌}
+use mathlib.Core.Path.{refl}
 use native.Mathlib.Omega.{arith}
-use lib.ListN.{length, length-set}
-use borrow.Author.Rules.{rules}
-use Rattle.twopoint_cartesian.specs.Cells.{state_merged}
+use lib.ListN.{length-set}
 use Rattle.twopoint_cartesian.proofs.Merge.{merge_place, merge_start, merge_turn, merge_done}
 use Rattle.twopoint_cartesian.proofs.merge_state.Goals as goal
 

@@ -1,10 +1,7 @@
-use mathlib.Core.Path.{◌≡◌, refl}
+use mathlib.Core.Path.{◌≡◌}
 use Prim.Native.Nat.{◌≤◌, ◌-◌}
-use native.Mathlib.Omega.{arith}
-use lib.ListN.{length, length-set}
-use borrow.Author.Rules.{rules}
+use lib.ListN.{length}
 use Rattle.twopoint_cartesian.specs.Cells.{state_merged}
-use Rattle.twopoint_cartesian.proofs.Merge.{merge_place, merge_start, merge_turn, merge_done}
 use Rattle.twopoint_cartesian.proofs.merge_state.Given as goal
 
 abbrev pub invariant-loop-e : goal.invariant-loop-e

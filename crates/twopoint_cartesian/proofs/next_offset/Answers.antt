@@ -1,6 +1,5 @@
 use Rattle.twopoint_cartesian.proofs.Next.{x_fits, y_fits, z_fits, next_x, next_y, next_z}
 use Rattle.twopoint_cartesian.specs.Readings.{axes_of}
-use borrow.Author.Rules.{rules}
 use Rattle.twopoint_cartesian.proofs.next_offset.Goals as goal
 
 pub overflow_add-x : goal.overflow_add-x

@@ -1,7 +1,6 @@
 use Rattle.twopoint_cartesian.proofs.Cells.{overlap_is}
 use mathlib.Core.List.{[]}
 use Rattle.spatial.specs.Readings.{block_of}
-use borrow.Author.Rules.{rules}
 use Rattle.twopoint_cartesian.proofs.overlap.Goals as goal
 
 pub returns : goal.returns

@@ -1,6 +1,5 @@
 use Rattle.twopoint_cartesian.proofs.Merge.{product_fits, place_fits}
 use mathlib.Core.Path.{refl}
-use borrow.Author.Rules.{rules}
 use Rattle.twopoint_cartesian.proofs.place_of.Goals as goal
 
 pub overflow_mul-result : goal.overflow_mul-result

@@ -1,8 +1,4 @@
-use mathlib.Core.Path.{◌≡◌, refl}
-use Prim.Native.Nat.{◌≤◌, ◌-◌}
 use native.Mathlib.Omega.{arith}
-use borrow.Author.Rules.{rules}
-use Rattle.twopoint_cartesian.specs.Cells.{fields, plane_in_mean}
 use Rattle.twopoint_cartesian.proofs.Means.{mean_plane_start, mean_plane_turn, mean_plane_done}
 use Rattle.twopoint_cartesian.proofs.plane_in_mean.Goals as goal
 
@@ -10,16 +6,16 @@ pub loop-y-init : goal.loop-y-init
 loop-y-init c = (omega arith, search mean_plane_start)
 
 pub overflow_mul-y : goal.overflow_mul-y
-overflow_mul-y c = omega (arith, s, c.requires.fact_1.row c.loop-y.y c.loop-y-test.true)
+overflow_mul-y c = omega (arith, c.well_formed, c.ranges, c.requires.fact_1.row c.loop-y.y c.loop-y-test.true)
 
 pub overflow_add-i : goal.overflow_add-i
-overflow_add-i c = omega (arith, s, c.requires.fact_1.row c.loop-y.y c.loop-y-test.true)
+overflow_add-i c = omega (arith, c.well_formed, c.ranges, c.requires.fact_1.row c.loop-y.y c.loop-y-test.true)
 
 pub overflow_mul-y-in-loop-y : goal.overflow_mul-y-in-loop-y
-overflow_mul-y-in-loop-y c = omega (arith, s, c.requires.fact_2.row c.loop-y.y c.loop-y-test.true)
+overflow_mul-y-in-loop-y c = omega (arith, c.well_formed, c.ranges, c.requires.fact_2.row c.loop-y.y c.loop-y-test.true)
 
 pub overflow_add-j : goal.overflow_add-j
-overflow_add-j c = omega (arith, s, c.requires.fact_2.row c.loop-y.y c.loop-y-test.true)
+overflow_add-j c = omega (arith, c.well_formed, c.ranges, c.requires.fact_2.row c.loop-y.y c.loop-y-test.true)
 
 pub row_in_mean-m-requires-clause-fact_1 : goal.row_in_mean-m-requires-clause-fact_1
 row_in_mean-m-requires-clause-fact_1 c = c.requires.fact_1.row c.loop-y.y c.loop-y-test.true

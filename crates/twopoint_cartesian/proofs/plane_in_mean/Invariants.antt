@@ -1,9 +1,6 @@
-use mathlib.Core.Path.{◌≡◌, refl}
+use mathlib.Core.Path.{◌≡◌}
 use Prim.Native.Nat.{◌≤◌, ◌-◌}
-use native.Mathlib.Omega.{arith}
-use borrow.Author.Rules.{rules}
 use Rattle.twopoint_cartesian.specs.Cells.{fields, plane_in_mean}
-use Rattle.twopoint_cartesian.proofs.Means.{mean_plane_start, mean_plane_turn, mean_plane_done}
 use Rattle.twopoint_cartesian.proofs.plane_in_mean.Given as goal
 
 abbrev pub invariant-loop-y : goal.invariant-loop-y

@@ -1,8 +1,4 @@
-use mathlib.Core.Path.{◌≡◌, refl}
-use Prim.Native.Nat.{◌≤◌, ◌-◌}
 use native.Mathlib.Omega.{arith}
-use borrow.Author.Rules.{rules}
-use Rattle.twopoint_cartesian.specs.Cells.{fields, row_in_mean}
 use Rattle.twopoint_cartesian.proofs.Means.{mean_start, mean_turn, mean_done}
 use Rattle.twopoint_cartesian.proofs.row_in_mean.Goals as goal
 
@@ -10,7 +6,7 @@ pub loop-x-init : goal.loop-x-init
 loop-x-init c = (omega arith, search mean_start)
 
 pub loop-x-preserved : goal.loop-x-preserved
-loop-x-preserved c = (omega arith, mean_turn _ _ _ _ _ _ _ _ _ _ c.loop-x-test.true c.cells_in_mean.ensures c.loop-x.invariant.1)
+loop-x-preserved c = (omega arith, mean_turn _ _ _ _ _ _ _ _ _ _ c.loop-x-test.true c.cells_in_mean-m.ensures c.loop-x.invariant.1)
 
 pub returns : goal.returns
 returns c = search mean_done

@@ -1,9 +1,6 @@
-use mathlib.Core.Path.{◌≡◌, refl}
+use mathlib.Core.Path.{◌≡◌}
 use Prim.Native.Nat.{◌≤◌, ◌-◌}
-use native.Mathlib.Omega.{arith}
-use borrow.Author.Rules.{rules}
 use Rattle.twopoint_cartesian.specs.Cells.{fields, row_in_mean}
-use Rattle.twopoint_cartesian.proofs.Means.{mean_start, mean_turn, mean_done}
 use Rattle.twopoint_cartesian.proofs.row_in_mean.Given as goal
 
 abbrev pub invariant-loop-x : goal.invariant-loop-x

@@ -1,10 +1,8 @@
-use mathlib.Core.Path.{◌∙◌, ap}
-use mathlib.Core.Logic.{⊎_elim}
-use lib.ListN.{length}
+use mathlib.Core.Path.{◌∙◌}
 use Rattle.parallel_serial.proofs.Refusals.{answer, stays, done}
 use Rattle.twopoint_cartesian.proofs.Runs.{drivable, ready_first, ready_second}
-use borrow.Author.Rules.{rules}
 use Rattle.twopoint_cartesian.proofs.run.Goals as goal
+use Rattle.twopoint_cartesian.proofs.run.Goals.{then-number-eq0, else-number-eq0}
 
 pub drive-requires-clause-ready_1 : goal.drive-requires-clause-ready_1
 drive-requires-clause-ready_1 c = search ready_first
@@ -25,4 +23,7 @@ pub returns-clause-pack_after : goal.returns-clause-pack_after
 returns-clause-pack_after c =
     let p = c.args.pack.now in
     let h = c.run_refusal-number.ensures in
-    ⊎_elim (λ w. done _ _ _ _ _ _ _ p _ h w.0.taken _ (w.5 ∙ w.2.ensures)) (λ w. w.1 ∙ stays _ _ _ _ _ _ _ p _ h w.0.left) c.if-number-eq0.branch
+    elim c.if-number-eq0.branch [
+      | then-number-eq0 w ↦ done _ _ _ _ _ _ _ p _ h w.if-number-eq0.true _ (w.pack-is ∙ w.drive.ensures)
+      | else-number-eq0 w ↦ w.pack-is ∙ stays _ _ _ _ _ _ _ p _ h w.if-number-eq0.false
+    ]

@@ -6,7 +6,6 @@ use Rattle.edge_table.proofs.Lookup.{tabled}
 use Rattle.twopoint_cartesian.proofs.Rows.{room_made}
 use Rattle.twopoint_cartesian.proofs.Walk.{roomy_same}
 use Rattle.twopoint_cartesian.proofs.Runs.{used_fits, used_part, used_lent, back_part, state_part, state_lent, added_filled}
-use borrow.Author.Rules.{rules}
 use Rattle.twopoint_cartesian.proofs.run_histograms.Goals as goal
 
 pub overflow_mul-used : goal.overflow_mul-used
@@ -55,10 +54,10 @@ fill-requires-clause-wide c =
     room_made _ _ refl refl
 
 pub slice_bounds-scratch-end-2 : goal.slice_bounds-scratch-end-2
-slice_bounds-scratch-end-2 c = back_part _ _ c.fill.new.scratch c.fill.auto.1.1.1.1.1.1.1.1.1.1.1.1.1.1.1.1.1.1.1.1.0 (used_part _ _ c.requires.findable_3 c.zeros-scratch.ensures)
+slice_bounds-scratch-end-2 c = back_part _ _ c.fill.new.scratch c.fill.auto.scratch (used_part _ _ c.requires.findable_3 c.zeros-scratch.ensures)
 
 pub slice_bounds-add_scratch-end : goal.slice_bounds-add_scratch-end
-slice_bounds-add_scratch-end c = sym (length-take-le _ _ (back_part _ _ c.fill.new.scratch c.fill.auto.1.1.1.1.1.1.1.1.1.1.1.1.1.1.1.1.1.1.1.1.0 (used_part _ _ c.requires.findable_3 c.zeros-scratch.ensures)))
+slice_bounds-add_scratch-end c = sym (length-take-le _ _ (back_part _ _ c.fill.new.scratch c.fill.auto.scratch (used_part _ _ c.requires.findable_3 c.zeros-scratch.ensures)))
 
 pub returns : goal.returns
-returns c = let z = c.zeros-scratch.ensures in added_filled _ _ _ _ _ _ _ _ _ _ _ _ _ _ (sym (state_lent _ c.requires.findable_2.small _ c.zero_state-state.ensures)) (c.fill.auto.1.1.1.1.1.1.1.1.1.1.1.1.1.1.1.1.1.1.1.1.0 ∙ sym (used_lent _ _ c.requires.findable_3 z)) (ap (take (c.args.setup.n_states * c.args.state_size)) z) c.fill.ensures c.add_scratch.ensures
+returns c = let z = c.zeros-scratch.ensures in added_filled _ _ _ _ _ _ _ _ _ _ _ _ _ _ (sym (state_lent _ c.requires.findable_2.small _ c.zero_state-state.ensures)) (c.fill.auto.scratch ∙ sym (used_lent _ _ c.requires.findable_3 z)) (ap (take (c.args.setup.n_states * c.args.state_size)) z) c.fill.ensures c.add_scratch.ensures

@@ -4,7 +4,6 @@ use native.Mathlib.Omega.{arith}
 use Rattle.parallel_serial.proofs.Scratch.{part_taken}
 use Rattle.twopoint_cartesian.proofs.Walk.{roomy_same}
 use Rattle.twopoint_cartesian.proofs.Runs.{used_fits, small_part, small_lent, from_zeros}
-use borrow.Author.Rules.{rules}
 use Rattle.twopoint_cartesian.proofs.run_means.Goals as goal
 
 pub overflow_mul-used : goal.overflow_mul-used

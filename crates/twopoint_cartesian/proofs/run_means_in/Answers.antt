@@ -1,7 +1,6 @@
 use mathlib.Core.Path.{ap, ◌∙◌}
 use Rattle.parallel_serial.specs.Drive.{added_scratch}
 use Rattle.edge_table.proofs.Lookup.{tabled}
-use borrow.Author.Rules.{rules}
 use Rattle.twopoint_cartesian.proofs.run_means_in.Goals as goal
 
 pub fill_means-requires-clause-ready_1 : goal.fill_means-requires-clause-ready_1

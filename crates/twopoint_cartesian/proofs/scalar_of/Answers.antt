@@ -1,5 +1,4 @@
 use Rattle.twopoint_cartesian.proofs.Means.{scalar_sum, scalar_histogram}
-use borrow.Author.Rules.{rules}
 use Rattle.twopoint_cartesian.proofs.scalar_of.Goals as goal
 
 pub returns-in-ComponentSumMean : goal.returns-in-ComponentSumMean

@@ -1,5 +1,4 @@
 use Rattle.twopoint_cartesian.proofs.Walk.{len_auto, len_cross}
-use borrow.Author.Rules.{rules}
 use Rattle.twopoint_cartesian.proofs.seq_len.Goals as goal
 
 pub returns-then-auto : goal.returns-then-auto
