@@ -1,10 +1,10 @@
 // Prints the curve of points.rec and edges.rec, or `refused ` and a number.
 #![tactic(auto)]
 
-use libc::STDOUT_FILENO;
+use std::io::{self, Write};
 
-fn main() {
-    let mut text = io::large_buffer();
-    let n = record_files::text_of_files(b"points.rec", b"edges.rec", &mut text);
-    io::write_all(STDOUT_FILENO, &text[..n]);
+fn main(rt: HostRuntime) -> io::Result<()> {
+    let mut text = [0u8; 65536];
+    let n = record_files::text_of_files(&rt, b"points.rec", b"edges.rec", &mut text);
+    io::writer(&rt).write_all(&text[..n])
 }

@@ -119,8 +119,7 @@ fn write_curve(points: &[u8], edges: &[u8], n: usize, pack: &mut [f64], output: 
 }
 
 // The curve's records in place of the output's bytes; answers the refusal's number, or 0.
-#[unsafe(no_mangle)]
-pub extern "C" fn pairstat_curve(points: &[u8], edges: &[u8], output: &mut [u8]) -> u32
+pub fn pairstat_curve(points: &[u8], edges: &[u8], output: &mut [u8]) -> u32
     ensures value { result ≡ refusal (entry_rules points.now edges.now (length output.old)) }
     ensures output_after { output.new ≡ entry_output points.now edges.now output.old }
 {

@@ -7,7 +7,8 @@ mod cases;
 mod runs;
 mod words;
 
-use libc::STDOUT_FILENO;
+use std::fs;
+use std::io::{self, Read};
 
 // How many calls a list may have, and how many words a record.
 const MOST_CALLS: u64 = 100_000;
@@ -29,21 +30,17 @@ pub struct Step {
     pub differ: u64,
 }
 
-fn read_head(fd: i32) -> Head {
+fn read_head<F: Read>(file: &mut F) -> Head {
     let mut bytes = [0; 16];
-    let got = io::read_full(fd, &mut bytes);
+    let whole = file.read_exact(&mut bytes).is_ok();
     let op = words::word_of(&bytes, 0);
     let n = words::word_of(&bytes, 8);
-    Head {
-        op,
-        n,
-        whole: got == 16,
-    }
+    Head { op, n, whole }
 }
 
 // Whether the record's answer differs: 0 or 1.
-fn call(
-    fd: i32,
+fn call<F: Read>(
+    file: &mut F,
     op: u64,
     bytes: &mut [u8],
     words: &mut [u64],
@@ -53,7 +50,7 @@ fn call(
     requires { (length words.old ≤ 8192) × (length floats.old ≡ length words.old) }
     ensures { result ≤ 1 }
 {
-    if io::read_full(fd, bytes) != bytes.len() {
+    if file.read_exact(bytes).is_err() {
         return 1;
     }
     words::decode(bytes, words, floats);
@@ -63,8 +60,8 @@ fn call(
     1
 }
 
-fn next_call(
-    fd: i32,
+fn next_call<F: Read>(
+    file: &mut F,
     bytes: &mut [u8],
     words: &mut [u64],
     floats: &mut [f64],
@@ -73,7 +70,7 @@ fn next_call(
     requires { (65536 ≡ length bytes.old) × (8192 ≡ length words.old) × (8192 ≡ length floats.old) }
     ensures { result.differ ≤ 1 }
 {
-    let head = read_head(fd);
+    let head = read_head(file);
     if !head.whole {
         return Step {
             ended: true,
@@ -90,7 +87,7 @@ fn next_call(
     let size = n * 8;
     let op = head.op;
     let differ = call(
-        fd,
+        file,
         op,
         &mut bytes[..size],
         &mut words[..n],
@@ -101,15 +98,6 @@ fn next_call(
         ended: false,
         differ,
     }
-}
-
-fn report(name: &[u8], calls: u64, differ: u64) {
-    io::write_all(STDOUT_FILENO, name);
-    io::write_all(STDOUT_FILENO, b" ");
-    io::print_decimal(STDOUT_FILENO, calls);
-    io::write_all(STDOUT_FILENO, b" calls, ");
-    io::print_decimal(STDOUT_FILENO, differ);
-    io::write_all(STDOUT_FILENO, b" differ\n");
 }
 
 fn word_room() -> [u64; 8192]
@@ -125,30 +113,29 @@ fn float_room() -> [f64; 8192]
 }
 
 // A list, by its file's name.
-fn replay(name: &[u8]) {
-    let fd = os::open_read(name);
-    let mut bytes = io::large_buffer();
+fn replay(rt: &HostRuntime, name: &str) -> io::Result<()> {
+    let mut file = fs::open(rt, name)?;
+    let mut bytes = [0u8; 65536];
     let mut words = word_room();
     let mut floats = float_room();
     let mut room = float_room();
     let mut calls = 0;
     let mut differ = 0;
     while calls < MOST_CALLS {
-        let step = next_call(fd, &mut bytes, &mut words, &mut floats, &mut room);
+        let step = next_call(&mut file, &mut bytes, &mut words, &mut floats, &mut room);
         differ += step.differ;
         if step.ended {
             break;
         }
         calls += 1;
     }
-    libc::close(fd);
-    report(name, calls, differ);
+    println!(rt; "{name} {calls} calls, {differ} differ")
 }
 
-fn main() {
-    replay(b"lookup.bin");
-    replay(b"segments.bin");
-    replay(b"pack.bin");
-    replay(b"points.bin");
-    replay(b"blocks.bin");
+fn main(rt: HostRuntime) -> io::Result<()> {
+    replay(&rt, "lookup.bin")?;
+    replay(&rt, "segments.bin")?;
+    replay(&rt, "pack.bin")?;
+    replay(&rt, "points.bin")?;
+    replay(&rt, "blocks.bin")
 }

@@ -4,6 +4,5 @@ use Rattle.definitions.proofs.Clauses.{both}
 use Rattle.capi.proofs.pairstat_value_from_accum_state.Goals as goal
 
 pub returns : goal.returns
-returns c = both (λ a b. record { value = a; value_after = b }) (let q = (c.value_from_accum_state.ensures.result_value, c.value_from_accum_state.ensures.value_after) in
-    let k = c.state_kind_from-kind.ensures in
-    rw (← k) (said _ _ _ c.number_from.ensures q.0, q.1))
+returns c = both (λ a b. record { value = a; value_after = b }) (let k = c.state_kind_from-kind.ensures in
+    rw (← k) (said _ _ _ c.number_from.ensures c.value_from_accum_state.ensures.result_value, c.value_from_accum_state.ensures.value_after))

@@ -6,7 +6,7 @@ use borrow.Author.Rules.{rules}
 use Rattle.record_files.proofs.read_all.Given as goal
 
 abbrev pub invariant-loop-n : goal.invariant-loop-n
-invariant-loop-n l = (l.n ≤ length l.buf) × (length l.buf ≡ length l.initial.buf)
+invariant-loop-n g l = (l.n ≤ length l.buf) × (length l.buf ≡ length l.initial.buf)
 
 abbrev pub decreases-loop-n : goal.decreases-loop-n
-decreases-loop-n l = length l.initial.buf - l.n
+decreases-loop-n g l = length l.initial.buf - l.n

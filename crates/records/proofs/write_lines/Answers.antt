@@ -6,10 +6,8 @@ use Rattle.records.proofs.write_lines.Goals as goal
 
 pub returns-clause-value : goal.returns-clause-value
 returns-clause-value c =
-    let put = (c.curve_lines.ensures.value, c.curve_lines.ensures.out_after) in
-    (same_count _ _ _ put.0.0 (lines_are _ _ _ _ _ (search rules) (search rules) (omega arith) (omega arith) (omega arith)), omega arith)
+    (same_count _ _ _ c.curve_lines.ensures.value.0 (lines_are _ _ _ _ _ (search rules) (search rules) (omega arith) (omega arith) (omega arith)), omega arith)
 
 pub returns-clause-out_after : goal.returns-clause-out_after
 returns-clause-out_after c =
-    let put = (c.curve_lines.ensures.value, c.curve_lines.ensures.out_after) in
-    same_stored _ _ _ _ put.1 (lines_are _ _ _ _ _ (search rules) (search rules) (omega arith) (omega arith) (omega arith))
+    same_stored _ _ _ _ c.curve_lines.ensures.out_after (lines_are _ _ _ _ _ (search rules) (search rules) (omega arith) (omega arith) (omega arith))
