@@ -1,4 +1,4 @@
-//! Finds librecords.a, which `rt staticlib records` writes.
+//! Finds librecords.a, which `scripts/staticlib records` writes.
 use std::path::PathBuf;
 use std::{env, process};
 
@@ -18,7 +18,7 @@ fn main() {
     println!("cargo:rerun-if-changed={}", library.display());
     if !library.is_file() {
         eprintln!(
-            "{} is missing: run `rt staticlib records`, or set RUMBESHYQ_LIB to its folder",
+            "{} is missing: run `scripts/staticlib records`, or set RUMBESHYQ_LIB to its folder",
             library.display()
         );
         process::exit(1);

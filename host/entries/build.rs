@@ -1,4 +1,4 @@
-//! Finds libcapi.a, which `rt staticlib capi` writes.
+//! Finds libcapi.a, which `scripts/staticlib capi` writes.
 use std::path::PathBuf;
 use std::{env, process};
 
@@ -18,7 +18,7 @@ fn main() {
     println!("cargo:rerun-if-changed={}", library.display());
     if !library.is_file() {
         eprintln!(
-            "{} is missing: run `rt staticlib capi`, or set RUMBESHYQ_LIB to its folder",
+            "{} is missing: run `scripts/staticlib capi`, or set RUMBESHYQ_LIB to its folder",
             library.display()
         );
         process::exit(1);
