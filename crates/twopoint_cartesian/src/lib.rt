@@ -49,9 +49,9 @@ struct Mean {
 
 // (index displacement times width)² on one axis; ga and gb are the blocks' global offsets.
 fn displaced_squared(d: i64, ga: i64, gb: i64, width: f64) -> f64
-    requires fact_1 { Near d }
-    requires fact_2 { Near ga }
-    requires fact_3 { Near gb }
+    requires d_near { Near d }
+    requires ga_near { Near ga }
+    requires gb_near { Near gb }
     ensures { result ≡ square (displaced d ga gb width) }
 {
     let c = ((d + gb - ga) as f64) * width;
@@ -60,9 +60,9 @@ fn displaced_squared(d: i64, ga: i64, gb: i64, width: f64) -> f64
 
 // From 0.0 in z, y, x order.
 fn distance_squared(width: CellWidth, a: Block, b: Block, o: Idx3DOffset) -> f64
-    requires fact_1 { AllNear o.0 o.1 o.2 }
-    requires fact_2 { AllNear a.gz a.gy a.gx }
-    requires fact_3 { AllNear b.gz b.gy b.gx }
+    requires o_near { AllNear o.0 o.1 o.2 }
+    requires a_near { AllNear a.gz a.gy a.gx }
+    requires b_near { AllNear b.gz b.gy b.gx }
     ensures { result ≡ distance_squared (width_of width) (block_of a [] [] [] []) (block_of b [] [] [] []) (idx_of o) }
 {
     let z = 0.0 + displaced_squared(o.0, a.gz, b.gz, width.z);
@@ -98,8 +98,8 @@ fn datum_at(
     i: usize,
     j: usize,
 ) -> Datum
-    requires fact_1 { Holds (fields a0.now a1.now a2.now aw.now) i }
-    requires fact_2 { Holds (fields b0.now b1.now b2.now bw.now) j }
+    requires a_cell { Holds (fields a0.now a1.now a2.now aw.now) i }
+    requires b_cell { Holds (fields b0.now b1.now b2.now bw.now) j }
     ensures { the_datum result ≡ datum_in setup (fields a0.now a1.now a2.now aw.now)
         (fields b0.now b1.now b2.now bw.now) i j }
 {
@@ -126,9 +126,9 @@ fn gather_row(
     n: usize,
     values: &mut [f64],
 )
-    requires fact_1 { RowFits (fields a0.now a1.now a2.now aw.now) i n }
-    requires fact_2 { RowFits (fields b0.now b1.now b2.now bw.now) j n }
-    requires fact_3 { n ≤ length values.old }
+    requires a_row { RowFits (fields a0.now a1.now a2.now aw.now) i n }
+    requires b_row { RowFits (fields b0.now b1.now b2.now bw.now) j n }
+    requires values_room { n ≤ length values.old }
     ensures { values.new ≡ overwritten n (row_value setup (fields a0.now a1.now a2.now aw.now) (fields b0.now b1.now b2.now bw.now) i j) values.old }
 {
     let mut x = 0;
@@ -165,9 +165,9 @@ fn gather_rows(
     m: usize,
     values: &mut [f64],
 )
-    requires fact_1 { PlaneFits (fields a0.now a1.now a2.now aw.now) i sa n m }
-    requires fact_2 { PlaneFits (fields b0.now b1.now b2.now bw.now) j sb n m }
-    requires fact_3 { m * n ≤ length values.old }
+    requires a_plane { PlaneFits (fields a0.now a1.now a2.now aw.now) i sa n m }
+    requires b_plane { PlaneFits (fields b0.now b1.now b2.now bw.now) j sb n m }
+    requires values_room { m * n ≤ length values.old }
     ensures { Gathered setup (fields a0.now a1.now a2.now aw.now)
         (fields b0.now b1.now b2.now bw.now) i j sa sb n m values.new }
 {
@@ -202,8 +202,8 @@ fn add_weight(bin: usize, weight: f64, state: &mut [f64])
 
 // Each pair's weight into its bin. Formed again here, so that no slice holds the weights.
 fn add_weights(aw: &[f64], bw: &[f64], i: usize, j: usize, found: &[usize], state: &mut [f64])
-    requires fact_1 { i + length found.now ≤ length aw.now }
-    requires fact_2 { j + length found.now ≤ length bw.now }
+    requires a_weights { i + length found.now ≤ length aw.now }
+    requires b_weights { j + length found.now ≤ length bw.now }
     ensures { state.new ≡ weights_added aw.now bw.now i j found.now 0 (length found.now) state.old }
 {
     for x in 0..found.len() {
@@ -224,9 +224,9 @@ fn add_found(
     found: &[usize],
     state: &mut [f64],
 )
-    requires fact_1 { RowsIn (length aw.now) i sa n m }
-    requires fact_2 { RowsIn (length bw.now) j sb n m }
-    requires fact_3 { m * n ≤ length found.now }
+    requires a_rows { RowsIn (length aw.now) i sa n m }
+    requires b_rows { RowsIn (length bw.now) j sb n m }
+    requires found_room { m * n ≤ length found.now }
     ensures { state.new ≡ rows_weighted aw.now bw.now i j sa sb n found.now 0 m state.old }
 {
     for r in 0..m {
@@ -267,11 +267,11 @@ fn add_rows(
     found: &mut [usize],
     state: &mut [f64],
 )
-    requires plane_fits_1 { PlaneFits (fields a0.now a1.now a2.now aw.now) i sa n m }
-    requires plane_fits_2 { PlaneFits (fields b0.now b1.now b2.now bw.now) j sb n m }
-    requires plane_fits_3 { Binned setup edges value_edges.now table (length state.old) }
-    requires values_len_1 { length values.old ≡ m * n }
-    requires values_len_2 { length found.old ≡ m * n }
+    requires a_plane { PlaneFits (fields a0.now a1.now a2.now aw.now) i sa n m }
+    requires b_plane { PlaneFits (fields b0.now b1.now b2.now bw.now) j sb n m }
+    requires binned { Binned setup edges value_edges.now table (length state.old) }
+    requires values_room { length values.old ≡ m * n }
+    requires found_room { length found.old ≡ m * n }
     ensures { state.new ≡ plane_added setup value_edges.now (fields a0.now a1.now a2.now aw.now)
         (fields b0.now b1.now b2.now bw.now) i j sa sb n 0 m state.old }
 {
@@ -315,10 +315,10 @@ fn add_plane(
     found: &mut [usize],
     state: &mut [f64],
 )
-    requires fact_1 { PlaneFits (fields a0.now a1.now a2.now aw.now) i sa n k }
-    requires fact_2 { PlaneFits (fields b0.now b1.now b2.now bw.now) j sb n k }
-    requires fact_3 { Binned setup edges value_edges.now table (length state.old) }
-    requires fact_4 { RowsRoom most n (length values.old) (length found.old) }
+    requires a_plane { PlaneFits (fields a0.now a1.now a2.now aw.now) i sa n k }
+    requires b_plane { PlaneFits (fields b0.now b1.now b2.now bw.now) j sb n k }
+    requires binned { Binned setup edges value_edges.now table (length state.old) }
+    requires rows_room { RowsRoom most n (length values.old) (length found.old) }
     ensures { state.new ≡ plane_added setup value_edges.now (fields a0.now a1.now a2.now aw.now)
         (fields b0.now b1.now b2.now bw.now) i j sa sb n 0 k state.old }
 {
@@ -383,10 +383,10 @@ fn add_planes(
     found: &mut [usize],
     state: &mut [f64],
 )
-    requires fact_1 { BlockFits (fields a0.now a1.now a2.now aw.now) i sa ta n k l }
-    requires fact_2 { BlockFits (fields b0.now b1.now b2.now bw.now) j sb tb n k l }
-    requires fact_3 { Binned setup edges value_edges.now table (length state.old) }
-    requires fact_4 { RowRoom n (length values.old) (length found.old) }
+    requires a_block { BlockFits (fields a0.now a1.now a2.now aw.now) i sa ta n k l }
+    requires b_block { BlockFits (fields b0.now b1.now b2.now bw.now) j sb tb n k l }
+    requires binned { Binned setup edges value_edges.now table (length state.old) }
+    requires row_room { RowRoom n (length values.old) (length found.old) }
     ensures { state.new ≡ block_added setup value_edges.now (fields a0.now a1.now a2.now aw.now)
         (fields b0.now b1.now b2.now bw.now) i j sa sb ta tb n k 0 l state.old }
 {
@@ -446,8 +446,8 @@ fn cells_in_mean(
     j: usize,
     m: Mean,
 ) -> Mean
-    requires fact_1 { Holds (fields a0.now a1.now a2.now aw.now) i }
-    requires fact_2 { Holds (fields b0.now b1.now b2.now bw.now) j }
+    requires a_cell { Holds (fields a0.now a1.now a2.now aw.now) i }
+    requires b_cell { Holds (fields b0.now b1.now b2.now bw.now) j }
     ensures { result ≡ cells_in_mean setup (fields a0.now a1.now a2.now aw.now)
         (fields b0.now b1.now b2.now bw.now) i j m }
 {
@@ -475,8 +475,8 @@ fn row_in_mean(
     n: usize,
     first: Mean,
 ) -> Mean
-    requires fact_1 { RowFits (fields a0.now a1.now a2.now aw.now) i n }
-    requires fact_2 { RowFits (fields b0.now b1.now b2.now bw.now) j n }
+    requires a_row { RowFits (fields a0.now a1.now a2.now aw.now) i n }
+    requires b_row { RowFits (fields b0.now b1.now b2.now bw.now) j n }
     ensures { result ≡ row_in_mean setup (fields a0.now a1.now a2.now aw.now)
         (fields b0.now b1.now b2.now bw.now) i j 0 n first }
 {
@@ -505,8 +505,8 @@ fn plane_in_mean(
     k: usize,
     first: Mean,
 ) -> Mean
-    requires fact_1 { PlaneFits (fields a0.now a1.now a2.now aw.now) i sa n k }
-    requires fact_2 { PlaneFits (fields b0.now b1.now b2.now bw.now) j sb n k }
+    requires a_plane { PlaneFits (fields a0.now a1.now a2.now aw.now) i sa n k }
+    requires b_plane { PlaneFits (fields b0.now b1.now b2.now bw.now) j sb n k }
     ensures { result ≡ plane_in_mean setup (fields a0.now a1.now a2.now aw.now)
         (fields b0.now b1.now b2.now bw.now) i j sa sb n 0 k first }
 {
@@ -552,8 +552,8 @@ fn block_in_mean(
     l: usize,
     first: Mean,
 ) -> Mean
-    requires fact_1 { BlockFits (fields a0.now a1.now a2.now aw.now) i sa ta n k l }
-    requires fact_2 { BlockFits (fields b0.now b1.now b2.now bw.now) j sb tb n k l }
+    requires a_block { BlockFits (fields a0.now a1.now a2.now aw.now) i sa ta n k l }
+    requires b_block { BlockFits (fields b0.now b1.now b2.now bw.now) j sb tb n k l }
     ensures { result ≡ block_in_mean setup (fields a0.now a1.now a2.now aw.now)
         (fields b0.now b1.now b2.now bw.now) i j sa sb ta tb n k 0 l first }
 {
@@ -591,8 +591,8 @@ fn cell_index(b: Block, z: usize, y: usize, x: usize) -> usize
 
 // The place of a's first cell at the offset, and of b's.
 fn first_of_a(a: Block, o: Idx3DOffset) -> usize
-    requires fact_1 { AllNear o.0 o.1 o.2 }
-    requires fact_2 { Placed a.sz a.sy a.sx (first_a (idx_of o)) }
+    requires o_near { AllNear o.0 o.1 o.2 }
+    requires a_placed { Placed a.sz a.sy a.sx (first_a (idx_of o)) }
     ensures { result ≡ cell_index (block_of a [] [] [] []) (first_a (idx_of o)) }
 {
     let z = idx_3d_offset::start_a(o.0);
@@ -602,8 +602,8 @@ fn first_of_a(a: Block, o: Idx3DOffset) -> usize
 }
 
 fn first_of_b(b: Block, o: Idx3DOffset) -> usize
-    requires fact_1 { AllNear o.0 o.1 o.2 }
-    requires fact_2 { Placed b.sz b.sy b.sx (first_b (idx_of o)) }
+    requires o_near { AllNear o.0 o.1 o.2 }
+    requires b_placed { Placed b.sz b.sy b.sx (first_b (idx_of o)) }
     ensures { result ≡ cell_index (block_of b [] [] [] []) (first_b (idx_of o)) }
 {
     let z = idx_3d_offset::start_b(o.0);
@@ -639,10 +639,10 @@ fn mean_of_offset(
     b: Block,
     o: Idx3DOffset,
 ) -> Mean
-    requires ready_1 { Ready (block_of a a0.now a1.now a2.now aw.now) }
-    requires ready_2 { Ready (block_of b b0.now b1.now b2.now bw.now) }
-    requires ready_3 { Reach (axes_of a) (axes_of b) (idx_of o) }
-    requires aw_value { auto ≡ true → block_of a a0.now a1.now a2.now aw.now ≡ block_of b b0.now b1.now b2.now bw.now }
+    requires a_ready { Ready (block_of a a0.now a1.now a2.now aw.now) }
+    requires b_ready { Ready (block_of b b0.now b1.now b2.now bw.now) }
+    requires reach { Reach (axes_of a) (axes_of b) (idx_of o) }
+    requires auto_same { auto ≡ true → block_of a a0.now a1.now a2.now aw.now ≡ block_of b b0.now b1.now b2.now bw.now }
     ensures { result ≡ offset_mean setup (block_of a a0.now a1.now a2.now aw.now)
         (block_of b b0.now b1.now b2.now bw.now) (idx_of o) }
 {
@@ -676,9 +676,9 @@ fn clear(state: &mut [f64])
 
 // Where number e of state `bin` stands in a pack.
 fn place_of(n_states: usize, e: usize, bin: usize) -> usize
-    requires fact_1 { n_states ≤ 256 }
-    requires fact_2 { e < 256 }
-    requires fact_3 { bin < 256 }
+    requires states_bound { n_states ≤ 256 }
+    requires number_bound { e < 256 }
+    requires bin_bound { bin < 256 }
     ensures { result ≡ place n_states e bin }
 {
     e * n_states + bin
@@ -716,9 +716,9 @@ fn bin_of_offset(
     b: Block,
     o: Idx3DOffset,
 ) -> BinIndex
-    requires all_near_1 { AllNear o.0 o.1 o.2 }
-    requires all_near_2 { AllNear a.gz a.gy a.gx }
-    requires all_near_3 { AllNear b.gz b.gy b.gx }
+    requires o_near { AllNear o.0 o.1 o.2 }
+    requires a_near { AllNear a.gz a.gy a.gx }
+    requires b_near { AllNear b.gz b.gy b.gx }
     requires tabled { Tabled setup.edges list.now distances }
     ensures { index_of result ≡ built_bin setup.edges list.now (distance_squared (width_of width) (block_of a [] [] [] []) (block_of b [] [] [] []) (idx_of o)) }
 {
@@ -758,9 +758,9 @@ fn lowest(n: usize) -> i64
 
 // The offset after o, by additions: its number in the sequence would take two divisions.
 fn next_offset(a: Block, b: Block, o: Idx3DOffset) -> Idx3DOffset
-    requires fact_1 { Walkable (axes_of a) }
-    requires fact_2 { Walkable (axes_of b) }
-    requires fact_3 { Reach (axes_of a) (axes_of b) (idx_of o) }
+    requires a_walkable { Walkable (axes_of a) }
+    requires b_walkable { Walkable (axes_of b) }
+    requires reach { Reach (axes_of a) (axes_of b) (idx_of o) }
     ensures { idx_of result ≡ offset_after (axes_of a) (axes_of b) (idx_of o) }
 {
     let x = o.2 + 1;
@@ -807,13 +807,13 @@ fn add_mean(
     o: Idx3DOffset,
     scratch: &mut [f64],
 )
-    requires ready_1 { Ready (block_of a a0.now a1.now a2.now aw.now) }
-    requires ready_2 { Ready (block_of b b0.now b1.now b2.now bw.now) }
-    requires ready_3 { (auto ≡ true → block_of a a0.now a1.now a2.now aw.now ≡ block_of b b0.now b1.now b2.now bw.now) }
-    requires ready_4 { Reach (axes_of a) (axes_of b) (idx_of o) }
-    requires reducer_value_1 { is_mean setup.reducer ≡ true }
-    requires reducer_value_2 { Tabled setup.edges list.now distances }
-    requires reducer_value_3 { Roomy setup list.now [] 2 (length scratch.old) }
+    requires a_ready { Ready (block_of a a0.now a1.now a2.now aw.now) }
+    requires b_ready { Ready (block_of b b0.now b1.now b2.now bw.now) }
+    requires auto_same { (auto ≡ true → block_of a a0.now a1.now a2.now aw.now ≡ block_of b b0.now b1.now b2.now bw.now) }
+    requires reach { Reach (axes_of a) (axes_of b) (idx_of o) }
+    requires means { is_mean setup.reducer ≡ true }
+    requires tabled { Tabled setup.edges list.now distances }
+    requires roomy { Roomy setup list.now [] 2 (length scratch.old) }
     ensures { scratch.new ≡ offset_added setup list.now [] (width_of width) (block_of a a0.now a1.now a2.now aw.now)
         (block_of b b0.now b1.now b2.now bw.now) 2 (idx_of o) scratch.old }
 {
@@ -845,12 +845,12 @@ fn fill_means(
     b: Block,
     scratch: &mut [f64],
 )
-    requires ready_1 { Ready (block_of a a0.now a1.now a2.now aw.now) }
-    requires ready_2 { Ready (block_of b b0.now b1.now b2.now bw.now) }
-    requires ready_3 { (auto ≡ true → block_of a a0.now a1.now a2.now aw.now ≡ block_of b b0.now b1.now b2.now bw.now) }
-    requires reducer_value_1 { is_mean setup.reducer ≡ true }
-    requires reducer_value_2 { Tabled setup.edges list.now distances }
-    requires reducer_value_3 { Roomy setup list.now [] 2 (length scratch.old) }
+    requires a_ready { Ready (block_of a a0.now a1.now a2.now aw.now) }
+    requires b_ready { Ready (block_of b b0.now b1.now b2.now bw.now) }
+    requires auto_same { (auto ≡ true → block_of a a0.now a1.now a2.now aw.now ≡ block_of b b0.now b1.now b2.now bw.now) }
+    requires means { is_mean setup.reducer ≡ true }
+    requires tabled { Tabled setup.edges list.now distances }
+    requires roomy { Roomy setup list.now [] 2 (length scratch.old) }
     ensures { scratch.new ≡ offsets_added setup list.now [] (width_of width) (block_of a a0.now a1.now a2.now aw.now)
         (block_of b b0.now b1.now b2.now bw.now) 2 (seq_for auto (axes_of a) (axes_of b)) scratch.old }
 {
@@ -883,12 +883,12 @@ fn run_means_in(
     scratch: &mut [f64],
     pack: &mut [f64],
 )
-    requires ready_1 { Ready (block_of a a0.now a1.now a2.now aw.now) }
-    requires ready_2 { Ready (block_of b b0.now b1.now b2.now bw.now) }
-    requires ready_3 { (auto ≡ true → block_of a a0.now a1.now a2.now aw.now ≡ block_of b b0.now b1.now b2.now bw.now) }
-    requires reducer_value_1 { is_mean setup.reducer ≡ true }
-    requires reducer_value_2 { Usable setup.edges list.now }
-    requires reducer_value_3 { Roomy setup list.now [] 2 (length scratch.old) }
+    requires a_ready { Ready (block_of a a0.now a1.now a2.now aw.now) }
+    requires b_ready { Ready (block_of b b0.now b1.now b2.now bw.now) }
+    requires auto_same { (auto ≡ true → block_of a a0.now a1.now a2.now aw.now ≡ block_of b b0.now b1.now b2.now bw.now) }
+    requires means { is_mean setup.reducer ≡ true }
+    requires usable { Usable setup.edges list.now }
+    requires roomy { Roomy setup list.now [] 2 (length scratch.old) }
     ensures { pack.new ≡ added_scratch pack.old (offsets_added setup list.now [] (width_of width) (block_of a a0.now a1.now a2.now aw.now)
         (block_of b b0.now b1.now b2.now bw.now) 2 (seq_for auto (axes_of a) (axes_of b)) scratch.old) }
 {
@@ -933,12 +933,12 @@ fn run_means(
     b: Block,
     pack: &mut [f64],
 )
-    requires ready_1 { Ready (block_of a a0.now a1.now a2.now aw.now) }
-    requires ready_2 { Ready (block_of b b0.now b1.now b2.now bw.now) }
-    requires ready_3 { (auto ≡ true → block_of a a0.now a1.now a2.now aw.now ≡ block_of b b0.now b1.now b2.now bw.now) }
-    requires reducer_value_1 { is_mean setup.reducer ≡ true }
-    requires reducer_value_2 { Usable setup.edges list.now }
-    requires reducer_value_3 { Roomy setup list.now [] 2 (setup.n_states * 2) }
+    requires a_ready { Ready (block_of a a0.now a1.now a2.now aw.now) }
+    requires b_ready { Ready (block_of b b0.now b1.now b2.now bw.now) }
+    requires auto_same { (auto ≡ true → block_of a a0.now a1.now a2.now aw.now ≡ block_of b b0.now b1.now b2.now bw.now) }
+    requires means { is_mean setup.reducer ≡ true }
+    requires usable { Usable setup.edges list.now }
+    requires roomy { Roomy setup list.now [] 2 (setup.n_states * 2) }
     ensures { pack.new ≡ added_scratch pack.old (offsets_added setup list.now [] (width_of width) (block_of a a0.now a1.now a2.now aw.now)
         (block_of b b0.now b1.now b2.now bw.now) 2 (seq_for auto (axes_of a) (axes_of b)) (take (setup.n_states * 2) zero_pack)) }
 {
@@ -1012,12 +1012,12 @@ fn add_histogram(
     state: &mut [f64],
     scratch: &mut [f64],
 )
-    requires ready_1 { Ready (block_of a a0.now a1.now a2.now aw.now) }
-    requires ready_2 { Ready (block_of b b0.now b1.now b2.now bw.now) }
-    requires ready_3 { Reach (axes_of a) (axes_of b) (idx_of o) }
-    requires binned_1 { Binned setup edges value_edges.now table (length state.old) }
-    requires binned_2 { Wide (length values.old) (length found.old) }
-    requires binned_3 { Room setup.n_states bin (length state.old) (length scratch.old) }
+    requires a_ready { Ready (block_of a a0.now a1.now a2.now aw.now) }
+    requires b_ready { Ready (block_of b b0.now b1.now b2.now bw.now) }
+    requires reach { Reach (axes_of a) (axes_of b) (idx_of o) }
+    requires binned { Binned setup edges value_edges.now table (length state.old) }
+    requires wide { Wide (length values.old) (length found.old) }
+    requires room { Room setup.n_states bin (length state.old) (length scratch.old) }
     ensures { scratch.new ≡ merged_in (some bin) setup.n_states (offset_cells setup value_edges.now (block_of a a0.now a1.now a2.now aw.now)
         (block_of b b0.now b1.now b2.now bw.now) (idx_of o) (fresh (length state.old))) scratch.old }
 {
@@ -1079,9 +1079,9 @@ fn add_offset(
     state: &mut [f64],
     scratch: &mut [f64],
 )
-    requires ready_1 { Ready (block_of a a0.now a1.now a2.now aw.now) }
-    requires ready_2 { Ready (block_of b b0.now b1.now b2.now bw.now) }
-    requires ready_3 { Reach (axes_of a) (axes_of b) (idx_of o) }
+    requires a_ready { Ready (block_of a a0.now a1.now a2.now aw.now) }
+    requires b_ready { Ready (block_of b b0.now b1.now b2.now bw.now) }
+    requires reach { Reach (axes_of a) (axes_of b) (idx_of o) }
     requires looked { Looked setup list.now value_edges.now tables }
     requires roomy { Roomy setup list.now value_edges.now (length state.old) (length scratch.old) }
     requires wide { Wide (length values.old) (length found.old) }
@@ -1143,9 +1143,9 @@ fn fill(
     state: &mut [f64],
     scratch: &mut [f64],
 )
-    requires ready_1 { Ready (block_of a a0.now a1.now a2.now aw.now) }
-    requires ready_2 { Ready (block_of b b0.now b1.now b2.now bw.now) }
-    requires ready_3 { (auto ≡ true → block_of a a0.now a1.now a2.now aw.now ≡ block_of b b0.now b1.now b2.now bw.now) }
+    requires a_ready { Ready (block_of a a0.now a1.now a2.now aw.now) }
+    requires b_ready { Ready (block_of b b0.now b1.now b2.now bw.now) }
+    requires auto_same { (auto ≡ true → block_of a a0.now a1.now a2.now aw.now ≡ block_of b b0.now b1.now b2.now bw.now) }
     requires looked { Looked setup list.now value_edges.now tables }
     requires roomy { Roomy setup list.now value_edges.now (length state.old) (length scratch.old) }
     requires wide { Wide (length values.old) (length found.old) }
@@ -1209,12 +1209,12 @@ fn run_histograms(
     b: Block,
     pack: &mut [f64],
 )
-    requires ready_1 { Ready (block_of a a0.now a1.now a2.now aw.now) }
-    requires ready_2 { Ready (block_of b b0.now b1.now b2.now bw.now) }
-    requires ready_3 { (auto ≡ true → block_of a a0.now a1.now a2.now aw.now ≡ block_of b b0.now b1.now b2.now bw.now) }
-    requires findable_1 { Findable setup edges list.now value_edges.now }
-    requires findable_2 { Roomy setup list.now value_edges.now state_size (setup.n_states * state_size) }
-    requires findable_3 { setup.n_states * state_size ≤ 4096 }
+    requires a_ready { Ready (block_of a a0.now a1.now a2.now aw.now) }
+    requires b_ready { Ready (block_of b b0.now b1.now b2.now bw.now) }
+    requires auto_same { (auto ≡ true → block_of a a0.now a1.now a2.now aw.now ≡ block_of b b0.now b1.now b2.now bw.now) }
+    requires findable { Findable setup edges list.now value_edges.now }
+    requires roomy { Roomy setup list.now value_edges.now state_size (setup.n_states * state_size) }
+    requires pack_bound { setup.n_states * state_size ≤ 4096 }
     ensures { pack.new ≡ added_scratch pack.old (offsets_added setup list.now value_edges.now (width_of width) (block_of a a0.now a1.now a2.now aw.now)
         (block_of b b0.now b1.now b2.now bw.now) state_size (seq_for auto (axes_of a) (axes_of b)) (take (setup.n_states * state_size) zero_pack)) }
 {
@@ -1283,9 +1283,9 @@ fn drive(
     shape: Shape,
     pack: &mut [f64],
 )
-    requires ready_1 { Ready (block_of a a0.now a1.now a2.now aw.now) }
-    requires ready_2 { Ready (block_of b b0.now b1.now b2.now bw.now) }
-    requires bw_value { cond auto (block_of a a0.now a1.now a2.now aw.now) (block_of b b0.now b1.now b2.now bw.now) ≡ (block_of b b0.now b1.now b2.now bw.now) }
+    requires a_ready { Ready (block_of a a0.now a1.now a2.now aw.now) }
+    requires b_ready { Ready (block_of b b0.now b1.now b2.now bw.now) }
+    requires auto_same { cond auto (block_of a a0.now a1.now a2.now aw.now) (block_of b b0.now b1.now b2.now bw.now) ≡ (block_of b b0.now b1.now b2.now bw.now) }
     requires drivable { Drivable (edges_of edges list.now) (kind_of kind value_edges.now) shape (length pack.old) }
     ensures { pack.new ≡ merged (sets_run (sets_for auto (width_of width) (block_of a a0.now a1.now a2.now aw.now)
         (block_of b b0.now b1.now b2.now bw.now)) edges list.now kind value_edges.now op shape) pack.old }
@@ -1348,7 +1348,7 @@ fn run(
     pack: &mut [f64],
 ) -> Outcome
     requires { cond auto (block_of a a0.now a1.now a2.now aw.now) (block_of b b0.now b1.now b2.now bw.now) ≡ (block_of b b0.now b1.now b2.now bw.now) }
-    ensures result_value { number_of result ≡ met (refusal (run_rules (sets_run (sets_for auto (width_of width) (block_of a a0.now a1.now a2.now aw.now)
+    ensures number { number_of result ≡ met (refusal (run_rules (sets_run (sets_for auto (width_of width) (block_of a a0.now a1.now a2.now aw.now)
         (block_of b b0.now b1.now b2.now bw.now)) edges list.now kind value_edges.now op shape) (length pack.old))) }
     ensures pack_after { pack.new ≡ step (sets_run (sets_for auto (width_of width) (block_of a a0.now a1.now a2.now aw.now)
         (block_of b b0.now b1.now b2.now bw.now)) edges list.now kind value_edges.now op shape) pack.old }
@@ -1415,7 +1415,7 @@ pub fn blocks_auto(
     shape: Shape,
     pack: &mut [f64],
 ) -> Outcome
-    ensures result_value { number_of result ≡ met (refusal (run_rules (auto_run width (block_of block comp0.now comp1.now comp2.now weights.now)
+    ensures number { number_of result ≡ met (refusal (run_rules (auto_run width (block_of block comp0.now comp1.now comp2.now weights.now)
         edges list.now kind value_edges.now op shape) (length pack.old))) }
     ensures pack_after { pack.new ≡ step (auto_run width (block_of block comp0.now comp1.now comp2.now weights.now)
         edges list.now kind value_edges.now op shape) pack.old }
@@ -1464,7 +1464,7 @@ pub fn blocks_cross(
     shape: Shape,
     pack: &mut [f64],
 ) -> Outcome
-    ensures result_value { number_of result ≡ met (refusal (run_rules (cross_run width (block_of a a0.now a1.now a2.now aw.now)
+    ensures number { number_of result ≡ met (refusal (run_rules (cross_run width (block_of a a0.now a1.now a2.now aw.now)
         (block_of b b0.now b1.now b2.now bw.now) edges list.now kind value_edges.now op shape) (length pack.old))) }
     ensures pack_after { pack.new ≡ step (cross_run width (block_of a a0.now a1.now a2.now aw.now)
         (block_of b b0.now b1.now b2.now bw.now) edges list.now kind value_edges.now op shape) pack.old }

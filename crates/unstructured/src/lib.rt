@@ -121,7 +121,7 @@ fn distances(
     d: &mut [f64],
 )
     requires readable { Readable positions.now values.now weights.now (j + m) stride }
-    requires m_in_bounds { m ≤ length d.old }
+    requires d_room { m ≤ length d.old }
     ensures { (e : ℕ) → e < m → get_or d.new e nan ≡ squared_diff_norm (the_point a) (point_in positions.now values.now weights.now stride (j + e)) }
 {
     let mut e = 0;
@@ -660,9 +660,9 @@ fn fill_batches(
     scratch: &mut [f64],
 )
     requires tabled_run { TabledRun setup list.now value_edges.now tables }
-    requires readable { Readable a_positions.now a_values.now a_weights.now a_n a_stride }
-    requires readable_2 { Readable b_positions.now b_values.now b_weights.now b_n b_stride }
-    requires a_stride_value { auto ≡ true → (point_in a_positions.now a_values.now a_weights.now a_stride ≡ point_in b_positions.now b_values.now b_weights.now b_stride) × (a_n ≡ b_n) }
+    requires a_readable { Readable a_positions.now a_values.now a_weights.now a_n a_stride }
+    requires b_readable { Readable b_positions.now b_values.now b_weights.now b_n b_stride }
+    requires auto_same { auto ≡ true → (point_in a_positions.now a_values.now a_weights.now a_stride ≡ point_in b_positions.now b_values.now b_weights.now b_stride) × (a_n ≡ b_n) }
     requires d_nonzero { (0 < length d.old) × Rooms (length d.old) d.old places.old found.old value_found.old }
     ensures { scratch.new ≡ filled setup list.now value_edges.now auto
         (points_in a_positions.now a_values.now a_weights.now a_stride a_n)
@@ -799,9 +799,9 @@ fn fill_few(
     scratch: &mut [f64],
 )
     requires usable_run { UsableRun setup list.now value_edges.now }
-    requires readable { Readable a_positions.now a_values.now a_weights.now a_n a_stride }
-    requires readable_2 { Readable b_positions.now b_values.now b_weights.now b_n b_stride }
-    requires a_stride_value { auto ≡ true → (point_in a_positions.now a_values.now a_weights.now a_stride ≡ point_in b_positions.now b_values.now b_weights.now b_stride) × (a_n ≡ b_n) }
+    requires a_readable { Readable a_positions.now a_values.now a_weights.now a_n a_stride }
+    requires b_readable { Readable b_positions.now b_values.now b_weights.now b_n b_stride }
+    requires auto_same { auto ≡ true → (point_in a_positions.now a_values.now a_weights.now a_stride ≡ point_in b_positions.now b_values.now b_weights.now b_stride) × (a_n ≡ b_n) }
     ensures { scratch.new ≡ filled setup list.now value_edges.now auto
         (points_in a_positions.now a_values.now a_weights.now a_stride a_n)
         (points_in b_positions.now b_values.now b_weights.now b_stride b_n) scratch.old }
@@ -849,9 +849,9 @@ fn fill_many(
     scratch: &mut [f64],
 )
     requires usable_run { UsableRun setup list.now value_edges.now }
-    requires readable { Readable a_positions.now a_values.now a_weights.now a_n a_stride }
-    requires readable_2 { Readable b_positions.now b_values.now b_weights.now b_n b_stride }
-    requires a_stride_value { auto ≡ true → (point_in a_positions.now a_values.now a_weights.now a_stride ≡ point_in b_positions.now b_values.now b_weights.now b_stride) × (a_n ≡ b_n) }
+    requires a_readable { Readable a_positions.now a_values.now a_weights.now a_n a_stride }
+    requires b_readable { Readable b_positions.now b_values.now b_weights.now b_n b_stride }
+    requires auto_same { auto ≡ true → (point_in a_positions.now a_values.now a_weights.now a_stride ≡ point_in b_positions.now b_values.now b_weights.now b_stride) × (a_n ≡ b_n) }
     ensures { scratch.new ≡ filled setup list.now value_edges.now auto
         (points_in a_positions.now a_values.now a_weights.now a_stride a_n)
         (points_in b_positions.now b_values.now b_weights.now b_stride b_n) scratch.old }
@@ -931,9 +931,9 @@ fn run_in(
     pack: &mut [f64],
 )
     requires usable_run { UsableRun setup list.now value_edges.now }
-    requires readable { Readable a_positions.now a_values.now a_weights.now a_n a_stride }
-    requires readable_2 { Readable b_positions.now b_values.now b_weights.now b_n b_stride }
-    requires a_stride_value { auto ≡ true → (point_in a_positions.now a_values.now a_weights.now a_stride ≡ point_in b_positions.now b_values.now b_weights.now b_stride) × (a_n ≡ b_n) }
+    requires a_readable { Readable a_positions.now a_values.now a_weights.now a_n a_stride }
+    requires b_readable { Readable b_positions.now b_values.now b_weights.now b_n b_stride }
+    requires auto_same { auto ≡ true → (point_in a_positions.now a_values.now a_weights.now a_stride ≡ point_in b_positions.now b_values.now b_weights.now b_stride) × (a_n ≡ b_n) }
     ensures { pack.new ≡ added_scratch pack.old (filled setup list.now value_edges.now auto
         (points_in a_positions.now a_values.now a_weights.now a_stride a_n)
         (points_in b_positions.now b_values.now b_weights.now b_stride b_n) scratch.old) }
@@ -1000,9 +1000,9 @@ fn run_sized(
 )
     requires used_bound { used ≤ 4096 }
     requires usable_run { UsableRun setup list.now value_edges.now }
-    requires readable { Readable a_positions.now a_values.now a_weights.now a_n a_stride }
-    requires readable_2 { Readable b_positions.now b_values.now b_weights.now b_n b_stride }
-    requires a_stride_value { auto ≡ true → (point_in a_positions.now a_values.now a_weights.now a_stride ≡ point_in b_positions.now b_values.now b_weights.now b_stride) × (a_n ≡ b_n) }
+    requires a_readable { Readable a_positions.now a_values.now a_weights.now a_n a_stride }
+    requires b_readable { Readable b_positions.now b_values.now b_weights.now b_n b_stride }
+    requires auto_same { auto ≡ true → (point_in a_positions.now a_values.now a_weights.now a_stride ≡ point_in b_positions.now b_values.now b_weights.now b_stride) × (a_n ≡ b_n) }
     ensures { pack.new ≡ added_scratch pack.old (filled setup list.now value_edges.now auto
         (points_in a_positions.now a_values.now a_weights.now a_stride a_n)
         (points_in b_positions.now b_values.now b_weights.now b_stride b_n) (take used zero_pack)) }
@@ -1091,9 +1091,9 @@ fn drive(
     shape: Shape,
     pack: &mut [f64],
 )
-    requires held { Held (points_of a a_positions.now a_values.now a_weights.now) }
-    requires held_2 { Held (points_of b b_positions.now b_values.now b_weights.now) }
-    requires a_weights_value { auto ≡ true → points_of a a_positions.now a_values.now a_weights.now ≡ points_of b b_positions.now b_values.now b_weights.now }
+    requires a_held { Held (points_of a a_positions.now a_values.now a_weights.now) }
+    requires b_held { Held (points_of b b_positions.now b_values.now b_weights.now) }
+    requires auto_same { auto ≡ true → points_of a a_positions.now a_values.now a_weights.now ≡ points_of b b_positions.now b_values.now b_weights.now }
     requires drivable { Drivable (edges_of edges list.now) (kind_of kind value_edges.now) shape (length pack.old) }
     ensures { pack.new ≡ merged (sets_run (sets_for auto (points_of a a_positions.now a_values.now a_weights.now)
         (points_of b b_positions.now b_values.now b_weights.now))
@@ -1146,7 +1146,7 @@ pub fn points_auto(
     shape: Shape,
     pack: &mut [f64],
 ) -> Outcome
-    ensures result_value { number_of result ≡ met (refusal (run_rules (auto_run (points_of set positions.now values.now weights.now)
+    ensures number { number_of result ≡ met (refusal (run_rules (auto_run (points_of set positions.now values.now weights.now)
         edges list.now kind value_edges.now op shape) (length pack.old))) }
     ensures pack_after { pack.new ≡ step (auto_run (points_of set positions.now values.now weights.now)
         edges list.now kind value_edges.now op shape) pack.old }
@@ -1209,7 +1209,7 @@ pub fn points_cross(
     shape: Shape,
     pack: &mut [f64],
 ) -> Outcome
-    ensures result_value { number_of result ≡ met (refusal (run_rules (cross_run (points_of a a_positions.now a_values.now a_weights.now)
+    ensures number { number_of result ≡ met (refusal (run_rules (cross_run (points_of a a_positions.now a_values.now a_weights.now)
         (points_of b b_positions.now b_values.now b_weights.now)
         edges list.now kind value_edges.now op shape) (length pack.old))) }
     ensures pack_after { pack.new ≡ step (cross_run (points_of a a_positions.now a_values.now a_weights.now)

@@ -8,7 +8,7 @@ pub returns-clause-value : goal.returns-clause-value
 returns-clause-value c =
     let same = same_runs _ _ _ _ _ _ _ _ _ _ _ _ _ (one_block_law _ _ _ (same_block _ (block_from _ _ _ _ _ _ c.args.a_gz c.args.a_gy c.args.a_gx) _ _ _ _ c.block_from-a.ensures c.ranges.a_gz c.ranges.a_gy c.ranges.a_gx)) c.edges_from-edges.ensures c.edges_from-value.ensures
     c.kind_from-kind.ensures c.op_from-op.ensures in
-    run_number_law _ _ same _ _ (said _ _ _ c.number_from.ensures c.blocks_auto.ensures.result_value)
+    run_number_law _ _ same _ _ (said _ _ _ c.number_from.ensures c.blocks_auto.ensures.number)
 
 pub returns-clause-pack_after : goal.returns-clause-pack_after
 returns-clause-pack_after c =

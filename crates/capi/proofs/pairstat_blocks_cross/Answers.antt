@@ -10,7 +10,7 @@ returns-clause-value c =
     let b = same_block _ (block_from _ _ _ _ _ _ c.args.b_gz c.args.b_gy c.args.b_gx) _ _ _ _ c.block_from-b.ensures c.ranges.b_gz c.ranges.b_gy c.ranges.b_gx in
     let same = same_runs _ _ _ _ _ _ _ _ _ _ _ _ _ (two_blocks_law _ _ _ _ _ a b) c.edges_from-edges.ensures c.edges_from-value.ensures
     c.kind_from-kind.ensures c.op_from-op.ensures in
-    run_number_law _ _ same _ _ (said _ _ _ c.number_from.ensures c.blocks_cross.ensures.result_value)
+    run_number_law _ _ same _ _ (said _ _ _ c.number_from.ensures c.blocks_cross.ensures.number)
 
 pub returns-clause-pack_after : goal.returns-clause-pack_after
 returns-clause-pack_after c =

@@ -9,7 +9,7 @@ pub returns-clause-value : goal.returns-clause-value
 returns-clause-value c =
     let same = same_runs _ _ _ _ _ _ _ _ _ _ _ _ _ (ap one_points (same_set _ _ _ _ _ _ _ c.stride_from.ensures)) c.edges_from-edges.ensures c.edges_from-value.ensures
     c.kind_from-kind.ensures c.op_from-op.ensures in
-    run_number_law _ _ same _ _ (said _ _ _ c.number_from.ensures c.points_auto.ensures.result_value)
+    run_number_law _ _ same _ _ (said _ _ _ c.number_from.ensures c.points_auto.ensures.number)
 
 pub returns-clause-pack_after : goal.returns-clause-pack_after
 returns-clause-pack_after c =

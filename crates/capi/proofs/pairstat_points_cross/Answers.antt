@@ -10,7 +10,7 @@ returns-clause-value c =
     let b = same_set _ _ _ _ _ _ _ c.stride_from-2.ensures in
     let same = same_runs _ _ _ _ _ _ _ _ _ _ _ _ _ (λ i. two_points (a i) (b i)) c.edges_from-edges.ensures c.edges_from-value.ensures
     c.kind_from-kind.ensures c.op_from-op.ensures in
-    run_number_law _ _ same _ _ (said _ _ _ c.number_from.ensures c.points_cross.ensures.result_value)
+    run_number_law _ _ same _ _ (said _ _ _ c.number_from.ensures c.points_cross.ensures.number)
 
 pub returns-clause-pack_after : goal.returns-clause-pack_after
 returns-clause-pack_after c =

@@ -10,59 +10,59 @@ pub loop-y-init : goal.loop-y-init
 loop-y-init c = (omega arith, refl, refl, refl, search plane_start)
 
 pub rows_at_once-m-requires : goal.rows_at_once-m-requires
-rows_at_once-m-requires c = (omega (arith, c.loop-y-test.true), omega (arith, c.requires.fact_4.least))
+rows_at_once-m-requires c = (omega (arith, c.loop-y-test.true), omega (arith, c.requires.rows_room.least))
 
 pub overflow_mul-c : goal.overflow_mul-c
-overflow_mul-c c = omega (arith, c.well_formed, room_of _ _ _ _ _ c.rows_at_once-m.ensures.2 c.requires.fact_4)
+overflow_mul-c c = omega (arith, c.well_formed, room_of _ _ _ _ _ c.rows_at_once-m.ensures.2 c.requires.rows_room)
 
 pub overflow_mul-y : goal.overflow_mul-y
-overflow_mul-y c = omega (arith, c.well_formed, c.ranges, c.requires.fact_1.row c.loop-y.y c.loop-y-test.true)
+overflow_mul-y c = omega (arith, c.well_formed, c.ranges, c.requires.a_plane.row c.loop-y.y c.loop-y-test.true)
 
 pub overflow_add-i : goal.overflow_add-i
-overflow_add-i c = omega (arith, c.well_formed, c.ranges, c.requires.fact_1.row c.loop-y.y c.loop-y-test.true)
+overflow_add-i c = omega (arith, c.well_formed, c.ranges, c.requires.a_plane.row c.loop-y.y c.loop-y-test.true)
 
 pub overflow_mul-y-in-loop-y : goal.overflow_mul-y-in-loop-y
-overflow_mul-y-in-loop-y c = omega (arith, c.well_formed, c.ranges, c.requires.fact_2.row c.loop-y.y c.loop-y-test.true)
+overflow_mul-y-in-loop-y c = omega (arith, c.well_formed, c.ranges, c.requires.b_plane.row c.loop-y.y c.loop-y-test.true)
 
 pub overflow_add-j : goal.overflow_add-j
-overflow_add-j c = omega (arith, c.well_formed, c.ranges, c.requires.fact_2.row c.loop-y.y c.loop-y-test.true)
+overflow_add-j c = omega (arith, c.well_formed, c.ranges, c.requires.b_plane.row c.loop-y.y c.loop-y-test.true)
 
 pub slice_bounds-add_rows-end : goal.slice_bounds-add_rows-end
-slice_bounds-add_rows-end c = omega (arith, c.loop-y.invariant.1, room_of _ _ _ _ _ c.rows_at_once-m.ensures.2 c.requires.fact_4)
+slice_bounds-add_rows-end c = omega (arith, c.loop-y.invariant.1, room_of _ _ _ _ _ c.rows_at_once-m.ensures.2 c.requires.rows_room)
 
 pub slice_bounds-add_rows-end-in-loop-y : goal.slice_bounds-add_rows-end-in-loop-y
-slice_bounds-add_rows-end-in-loop-y c = sym (length-take-le _ _ (omega (arith, c.loop-y.invariant.1, room_of _ _ _ _ _ c.rows_at_once-m.ensures.2 c.requires.fact_4)))
+slice_bounds-add_rows-end-in-loop-y c = sym (length-take-le _ _ (omega (arith, c.loop-y.invariant.1, room_of _ _ _ _ _ c.rows_at_once-m.ensures.2 c.requires.rows_room)))
 
 pub slice_bounds-add_rows-end-in-loop-y-2 : goal.slice_bounds-add_rows-end-in-loop-y-2
-slice_bounds-add_rows-end-in-loop-y-2 c = omega (arith, c.loop-y.invariant.2, c.requires.fact_4.found, room_of _ _ _ _ _ c.rows_at_once-m.ensures.2 c.requires.fact_4)
+slice_bounds-add_rows-end-in-loop-y-2 c = omega (arith, c.loop-y.invariant.2, c.requires.rows_room.found, room_of _ _ _ _ _ c.rows_at_once-m.ensures.2 c.requires.rows_room)
 
 pub slice_bounds-add_rows-end-in-loop-y-3 : goal.slice_bounds-add_rows-end-in-loop-y-3
-slice_bounds-add_rows-end-in-loop-y-3 c = sym (length-take-le _ _ (omega (arith, c.loop-y.invariant.2, c.requires.fact_4.found, room_of _ _ _ _ _ c.rows_at_once-m.ensures.2 c.requires.fact_4)))
+slice_bounds-add_rows-end-in-loop-y-3 c = sym (length-take-le _ _ (omega (arith, c.loop-y.invariant.2, c.requires.rows_room.found, room_of _ _ _ _ _ c.rows_at_once-m.ensures.2 c.requires.rows_room)))
 
-pub add_rows-requires-clause-plane_fits_1 : goal.add_rows-requires-clause-plane_fits_1
-add_rows-requires-clause-plane_fits_1 c =
-    let t = c.loop-y in let h = c.loop-y-test.true in let m = c.rows_at_once-m.ensures in let l = room_of _ _ _ _ _ m.2 c.requires.fact_4 in
-    plane_part _ _ _ _ _ t.y _ h (omega (arith, m, h)) c.requires.fact_1
+pub add_rows-requires-clause-a_plane : goal.add_rows-requires-clause-a_plane
+add_rows-requires-clause-a_plane c =
+    let t = c.loop-y in let h = c.loop-y-test.true in let m = c.rows_at_once-m.ensures in let l = room_of _ _ _ _ _ m.2 c.requires.rows_room in
+    plane_part _ _ _ _ _ t.y _ h (omega (arith, m, h)) c.requires.a_plane
 
-pub add_rows-requires-clause-plane_fits_2 : goal.add_rows-requires-clause-plane_fits_2
-add_rows-requires-clause-plane_fits_2 c =
-    let t = c.loop-y in let h = c.loop-y-test.true in let m = c.rows_at_once-m.ensures in let l = room_of _ _ _ _ _ m.2 c.requires.fact_4 in
-    plane_part _ _ _ _ _ t.y _ h (omega (arith, m, h)) c.requires.fact_2
+pub add_rows-requires-clause-b_plane : goal.add_rows-requires-clause-b_plane
+add_rows-requires-clause-b_plane c =
+    let t = c.loop-y in let h = c.loop-y-test.true in let m = c.rows_at_once-m.ensures in let l = room_of _ _ _ _ _ m.2 c.requires.rows_room in
+    plane_part _ _ _ _ _ t.y _ h (omega (arith, m, h)) c.requires.b_plane
 
-pub add_rows-requires-clause-plane_fits_3 : goal.add_rows-requires-clause-plane_fits_3
-add_rows-requires-clause-plane_fits_3 c =
-    let t = c.loop-y in let h = c.loop-y-test.true in let m = c.rows_at_once-m.ensures in let l = room_of _ _ _ _ _ m.2 c.requires.fact_4 in
-    binned_same _ _ _ _ _ _ t.invariant.3 c.requires.fact_3
+pub add_rows-requires-clause-binned : goal.add_rows-requires-clause-binned
+add_rows-requires-clause-binned c =
+    let t = c.loop-y in let h = c.loop-y-test.true in let m = c.rows_at_once-m.ensures in let l = room_of _ _ _ _ _ m.2 c.requires.rows_room in
+    binned_same _ _ _ _ _ _ t.invariant.3 c.requires.binned
 
-pub add_rows-requires-clause-values_len_1 : goal.add_rows-requires-clause-values_len_1
-add_rows-requires-clause-values_len_1 c =
-    let t = c.loop-y in let h = c.loop-y-test.true in let m = c.rows_at_once-m.ensures in let l = room_of _ _ _ _ _ m.2 c.requires.fact_4 in
+pub add_rows-requires-clause-values_room : goal.add_rows-requires-clause-values_room
+add_rows-requires-clause-values_room c =
+    let t = c.loop-y in let h = c.loop-y-test.true in let m = c.rows_at_once-m.ensures in let l = room_of _ _ _ _ _ m.2 c.requires.rows_room in
     length-take-le _ t.values (omega (arith, t.invariant.1, l))
 
-pub add_rows-requires-clause-values_len_2 : goal.add_rows-requires-clause-values_len_2
-add_rows-requires-clause-values_len_2 c =
-    let t = c.loop-y in let h = c.loop-y-test.true in let m = c.rows_at_once-m.ensures in let l = room_of _ _ _ _ _ m.2 c.requires.fact_4 in
-    length-take-le _ t.found (omega (arith, t.invariant.2, c.requires.fact_4.found, l))
+pub add_rows-requires-clause-found_room : goal.add_rows-requires-clause-found_room
+add_rows-requires-clause-found_room c =
+    let t = c.loop-y in let h = c.loop-y-test.true in let m = c.rows_at_once-m.ensures in let l = room_of _ _ _ _ _ m.2 c.requires.rows_room in
+    length-take-le _ t.found (omega (arith, t.invariant.2, c.requires.rows_room.found, l))
 
 pub overflow_add-y : goal.overflow_add-y
 overflow_add-y c = omega (arith, c.well_formed, c.ranges, c.rows_at_once-m.ensures, c.loop-y-test.true)

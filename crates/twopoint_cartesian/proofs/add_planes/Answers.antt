@@ -6,40 +6,40 @@ use Rattle.twopoint_cartesian.proofs.Rows.{binned_same, room_rows, rows_room_sam
 use Rattle.twopoint_cartesian.proofs.add_planes.Goals as goal
 
 pub nonzero_div-most : goal.nonzero_div-most
-nonzero_div-most c = omega (arith, c.requires.fact_4.least)
+nonzero_div-most c = omega (arith, c.requires.row_room.least)
 
 pub loop-z-init : goal.loop-z-init
-loop-z-init c = (omega arith, refl, refl, room_rows _ _ _ c.requires.fact_4, refl, search block_start)
+loop-z-init c = (omega arith, refl, refl, room_rows _ _ _ c.requires.row_room, refl, search block_start)
 
 pub overflow_mul-z : goal.overflow_mul-z
-overflow_mul-z c = omega (arith, c.well_formed, c.ranges, c.requires.fact_1.plane c.loop-z.z c.loop-z-test.true)
+overflow_mul-z c = omega (arith, c.well_formed, c.ranges, c.requires.a_block.plane c.loop-z.z c.loop-z-test.true)
 
 pub overflow_add-i : goal.overflow_add-i
-overflow_add-i c = omega (arith, c.well_formed, c.ranges, c.requires.fact_1.plane c.loop-z.z c.loop-z-test.true)
+overflow_add-i c = omega (arith, c.well_formed, c.ranges, c.requires.a_block.plane c.loop-z.z c.loop-z-test.true)
 
 pub overflow_mul-z-in-loop-z : goal.overflow_mul-z-in-loop-z
-overflow_mul-z-in-loop-z c = omega (arith, c.well_formed, c.ranges, c.requires.fact_2.plane c.loop-z.z c.loop-z-test.true)
+overflow_mul-z-in-loop-z c = omega (arith, c.well_formed, c.ranges, c.requires.b_block.plane c.loop-z.z c.loop-z-test.true)
 
 pub overflow_add-j : goal.overflow_add-j
-overflow_add-j c = omega (arith, c.well_formed, c.ranges, c.requires.fact_2.plane c.loop-z.z c.loop-z-test.true)
+overflow_add-j c = omega (arith, c.well_formed, c.ranges, c.requires.b_block.plane c.loop-z.z c.loop-z-test.true)
 
-pub add_plane-requires-clause-fact_1 : goal.add_plane-requires-clause-fact_1
-add_plane-requires-clause-fact_1 c =
+pub add_plane-requires-clause-a_plane : goal.add_plane-requires-clause-a_plane
+add_plane-requires-clause-a_plane c =
     let t = c.loop-z in let h = c.loop-z-test.true in
-    c.requires.fact_1.plane t.z h
+    c.requires.a_block.plane t.z h
 
-pub add_plane-requires-clause-fact_2 : goal.add_plane-requires-clause-fact_2
-add_plane-requires-clause-fact_2 c =
+pub add_plane-requires-clause-b_plane : goal.add_plane-requires-clause-b_plane
+add_plane-requires-clause-b_plane c =
     let t = c.loop-z in let h = c.loop-z-test.true in
-    c.requires.fact_2.plane t.z h
+    c.requires.b_block.plane t.z h
 
-pub add_plane-requires-clause-fact_3 : goal.add_plane-requires-clause-fact_3
-add_plane-requires-clause-fact_3 c =
+pub add_plane-requires-clause-binned : goal.add_plane-requires-clause-binned
+add_plane-requires-clause-binned c =
     let t = c.loop-z in let h = c.loop-z-test.true in
-    binned_same _ _ _ _ _ _ t.invariant.4 c.requires.fact_3
+    binned_same _ _ _ _ _ _ t.invariant.4 c.requires.binned
 
-pub add_plane-requires-clause-fact_4 : goal.add_plane-requires-clause-fact_4
-add_plane-requires-clause-fact_4 c =
+pub add_plane-requires-clause-rows_room : goal.add_plane-requires-clause-rows_room
+add_plane-requires-clause-rows_room c =
     let t = c.loop-z in let h = c.loop-z-test.true in
     t.invariant.3
 

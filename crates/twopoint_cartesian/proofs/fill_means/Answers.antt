@@ -6,46 +6,46 @@ use Rattle.twopoint_cartesian.proofs.Walk.{walk_reach, walk_next, walk_turn, wal
 use Rattle.twopoint_cartesian.proofs.fill_means.Goals as goal
 
 pub first_offset-o-requires : goal.first_offset-o-requires
-first_offset-o-requires c = c.requires.ready_1.axes
+first_offset-o-requires c = c.requires.a_ready.axes
 
 pub loop-init : goal.loop-init
 loop-init c = (omega arith, refl, (λ h. c.first_offset-o.ensures (omega (arith, h, c.seq_len-n.ensures))), refl)
 
-pub add_mean-requires-clause-ready_1 : goal.add_mean-requires-clause-ready_1
-add_mean-requires-clause-ready_1 c = c.requires.ready_1
+pub add_mean-requires-clause-a_ready : goal.add_mean-requires-clause-a_ready
+add_mean-requires-clause-a_ready c = c.requires.a_ready
 
-pub add_mean-requires-clause-ready_2 : goal.add_mean-requires-clause-ready_2
-add_mean-requires-clause-ready_2 c = c.requires.ready_2
+pub add_mean-requires-clause-b_ready : goal.add_mean-requires-clause-b_ready
+add_mean-requires-clause-b_ready c = c.requires.b_ready
 
-pub add_mean-requires-clause-ready_3 : goal.add_mean-requires-clause-ready_3
-add_mean-requires-clause-ready_3 c = c.requires.ready_3
+pub add_mean-requires-clause-auto_same : goal.add_mean-requires-clause-auto_same
+add_mean-requires-clause-auto_same c = c.requires.auto_same
 
-pub add_mean-requires-clause-ready_4 : goal.add_mean-requires-clause-ready_4
-add_mean-requires-clause-ready_4 c = walk_reach _ _ _ c.requires.ready_3 _ _ c.seq_len-n.ensures c.loop-test.true _ c.loop.invariant.2
+pub add_mean-requires-clause-reach : goal.add_mean-requires-clause-reach
+add_mean-requires-clause-reach c = walk_reach _ _ _ c.requires.auto_same _ _ c.seq_len-n.ensures c.loop-test.true _ c.loop.invariant.2
 
-pub add_mean-requires-clause-reducer_value_1 : goal.add_mean-requires-clause-reducer_value_1
-add_mean-requires-clause-reducer_value_1 c = c.requires.reducer_value_1
+pub add_mean-requires-clause-means : goal.add_mean-requires-clause-means
+add_mean-requires-clause-means c = c.requires.means
 
-pub add_mean-requires-clause-reducer_value_2 : goal.add_mean-requires-clause-reducer_value_2
-add_mean-requires-clause-reducer_value_2 c = c.requires.reducer_value_2
+pub add_mean-requires-clause-tabled : goal.add_mean-requires-clause-tabled
+add_mean-requires-clause-tabled c = c.requires.tabled
 
-pub add_mean-requires-clause-reducer_value_3 : goal.add_mean-requires-clause-reducer_value_3
-add_mean-requires-clause-reducer_value_3 c = roomy_same _ _ _ _ _ _ _ refl c.loop.invariant.1 c.requires.reducer_value_3
+pub add_mean-requires-clause-roomy : goal.add_mean-requires-clause-roomy
+add_mean-requires-clause-roomy c = roomy_same _ _ _ _ _ _ _ refl c.loop.invariant.1 c.requires.roomy
 
-pub next_offset-o-requires-clause-fact_1 : goal.next_offset-o-requires-clause-fact_1
-next_offset-o-requires-clause-fact_1 c = c.requires.ready_1.axes
+pub next_offset-o-requires-clause-a_walkable : goal.next_offset-o-requires-clause-a_walkable
+next_offset-o-requires-clause-a_walkable c = c.requires.a_ready.axes
 
-pub next_offset-o-requires-clause-fact_2 : goal.next_offset-o-requires-clause-fact_2
-next_offset-o-requires-clause-fact_2 c = c.requires.ready_2.axes
+pub next_offset-o-requires-clause-b_walkable : goal.next_offset-o-requires-clause-b_walkable
+next_offset-o-requires-clause-b_walkable c = c.requires.b_ready.axes
 
-pub next_offset-o-requires-clause-fact_3 : goal.next_offset-o-requires-clause-fact_3
-next_offset-o-requires-clause-fact_3 c = walk_reach _ _ _ c.requires.ready_3 _ _ c.seq_len-n.ensures c.loop-test.true _ c.loop.invariant.2
+pub next_offset-o-requires-clause-reach : goal.next_offset-o-requires-clause-reach
+next_offset-o-requires-clause-reach c = walk_reach _ _ _ c.requires.auto_same _ _ c.seq_len-n.ensures c.loop-test.true _ c.loop.invariant.2
 
 pub loop-preserved : goal.loop-preserved
 loop-preserved c = let h = c.loop-test.true in (
   omega (arith, h),
   omega (arith, c.add_mean.auto, c.loop.invariant.1),
-  walk_next _ _ _ c.requires.ready_3 _ _ c.seq_len-n.ensures h _ c.loop.invariant.2 _ c.next_offset-o.ensures,
+  walk_next _ _ _ c.requires.auto_same _ _ c.seq_len-n.ensures h _ c.loop.invariant.2 _ c.next_offset-o.ensures,
   walk_turn _ _ _ _ _ _ _ (seq_for c.args.auto (axes_of c.args.a) (axes_of c.args.b)) _ c.loop.counter _ _ (c.loop.invariant.2 h) _ _ refl c.add_mean.ensures c.loop.invariant.3,
 )
 

@@ -10,22 +10,22 @@ pub loop-x-init : goal.loop-x-init
 loop-x-init c = (omega arith, refl, refl)
 
 pub overflow_add-i-in-loop-x : goal.overflow_add-i-in-loop-x
-overflow_add-i-in-loop-x c = omega (arith, c.well_formed, c.ranges, c.requires.fact_1, c.loop-x-test.true)
+overflow_add-i-in-loop-x c = omega (arith, c.well_formed, c.ranges, c.requires.a_row, c.loop-x-test.true)
 
 pub overflow_add-j-in-loop-x : goal.overflow_add-j-in-loop-x
-overflow_add-j-in-loop-x c = omega (arith, c.well_formed, c.ranges, c.requires.fact_2, c.loop-x-test.true)
+overflow_add-j-in-loop-x c = omega (arith, c.well_formed, c.ranges, c.requires.b_row, c.loop-x-test.true)
 
 pub offset_bounds-values-x : goal.offset_bounds-values-x
-offset_bounds-values-x c = let t = c.loop-x in omega (arith, c.well_formed, c.requires.fact_3, t.invariant.1, c.loop-x-test.true)
+offset_bounds-values-x c = let t = c.loop-x in omega (arith, c.well_formed, c.requires.values_room, t.invariant.1, c.loop-x-test.true)
 
 pub bounds-values-x : goal.bounds-values-x
-bounds-values-x c = let t = c.loop-x in omega (arith, c.requires.fact_3, t.invariant.1, c.loop-x-test.true)
+bounds-values-x c = let t = c.loop-x in omega (arith, c.requires.values_room, t.invariant.1, c.loop-x-test.true)
 
 pub offset_bounds-values-y : goal.offset_bounds-values-y
-offset_bounds-values-y c = let t = c.loop-x in omega (arith, c.well_formed, c.requires.fact_3, t.invariant.1, c.loop-x-test.true)
+offset_bounds-values-y c = let t = c.loop-x in omega (arith, c.well_formed, c.requires.values_room, t.invariant.1, c.loop-x-test.true)
 
 pub bounds-values-y : goal.bounds-values-y
-bounds-values-y c = let t = c.loop-x in simp length-set (omega (arith, c.requires.fact_3, t.invariant.1, c.loop-x-test.true))
+bounds-values-y c = let t = c.loop-x in simp length-set (omega (arith, c.requires.values_room, t.invariant.1, c.loop-x-test.true))
 
 pub overflow_add-x-in-loop-x : goal.overflow_add-x-in-loop-x
 overflow_add-x-in-loop-x c = omega (arith, c.well_formed, c.ranges, c.loop-x-test.true)

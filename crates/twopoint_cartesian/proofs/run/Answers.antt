@@ -4,17 +4,17 @@ use Rattle.twopoint_cartesian.proofs.Runs.{drivable, ready_first, ready_second}
 use Rattle.twopoint_cartesian.proofs.run.Goals as goal
 use Rattle.twopoint_cartesian.proofs.run.Goals.{then-number-eq0, else-number-eq0}
 
-pub drive-requires-clause-ready_1 : goal.drive-requires-clause-ready_1
-drive-requires-clause-ready_1 c = search ready_first
+pub drive-requires-clause-a_ready : goal.drive-requires-clause-a_ready
+drive-requires-clause-a_ready c = search ready_first
 
-pub drive-requires-clause-ready_2 : goal.drive-requires-clause-ready_2
-drive-requires-clause-ready_2 c = search ready_second
+pub drive-requires-clause-b_ready : goal.drive-requires-clause-b_ready
+drive-requires-clause-b_ready c = search ready_second
 
 pub drive-requires-clause-drivable : goal.drive-requires-clause-drivable
 drive-requires-clause-drivable c = search drivable
 
-pub returns-clause-result_value : goal.returns-clause-result_value
-returns-clause-result_value c =
+pub returns-clause-number : goal.returns-clause-number
+returns-clause-number c =
     let p = c.args.pack.now in
     let h = c.run_refusal-number.ensures in
     answer _ _ _ _ _ _ _ p _ h _ c.outcome_of.ensures

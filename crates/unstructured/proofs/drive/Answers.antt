@@ -13,14 +13,14 @@ run_sized-requires-clause-usable_run c =
     let x = c.args in
     usable_run x.edges x.list.now x.kind x.value_edges.now x.shape _ c.requires.drivable c.type_inv.list c.type_inv.value_edges (record { op = x.op; edges = c.build_edges-built.result; reducer = c.build_reducer-reducer.result; n_states = x.shape.n_states }) c.build_edges-built.ensures c.build_reducer-reducer.ensures refl
 
-pub run_sized-requires-clause-readable : goal.run_sized-requires-clause-readable
-run_sized-requires-clause-readable c = search readable
+pub run_sized-requires-clause-a_readable : goal.run_sized-requires-clause-a_readable
+run_sized-requires-clause-a_readable c = search readable
 
-pub run_sized-requires-clause-readable_2 : goal.run_sized-requires-clause-readable_2
-run_sized-requires-clause-readable_2 c = search readable
+pub run_sized-requires-clause-b_readable : goal.run_sized-requires-clause-b_readable
+run_sized-requires-clause-b_readable c = search readable
 
-pub run_sized-requires-clause-a_stride_value : goal.run_sized-requires-clause-a_stride_value
-run_sized-requires-clause-a_stride_value c = search (same_points, c.stride_of-a_stride.ensures, c.stride_of-b_stride.ensures, c.requires.a_weights_value)
+pub run_sized-requires-clause-auto_same : goal.run_sized-requires-clause-auto_same
+run_sized-requires-clause-auto_same c = search (same_points, c.stride_of-a_stride.ensures, c.stride_of-b_stride.ensures, c.requires.auto_same)
 
 pub returns : goal.returns
 returns c = search driven

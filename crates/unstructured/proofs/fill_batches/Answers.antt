@@ -7,7 +7,7 @@ use Rattle.unstructured.proofs.fill_batches.Goals as goal
 pub loop-i-init : goal.loop-i-init
 unfolding points_in
 loop-i-init c = let x = c.args in
-    (refl, refl, refl, refl, refl, fill_starts x.setup x.list.now x.value_edges.now x.auto (point_in x.a_positions.now x.a_values.now x.a_weights.now x.a_stride) (point_in x.b_positions.now x.b_values.now x.b_weights.now x.b_stride) x.a_n x.b_n x.scratch.now c.requires.a_stride_value)
+    (refl, refl, refl, refl, refl, fill_starts x.setup x.list.now x.value_edges.now x.auto (point_in x.a_positions.now x.a_values.now x.a_weights.now x.a_stride) (point_in x.b_positions.now x.b_values.now x.b_weights.now x.b_stride) x.a_n x.b_n x.scratch.now c.requires.auto_same)
 
 pub add_batches-requires-clause-d_nonzero : goal.add_batches-requires-clause-d_nonzero
 add_batches-requires-clause-d_nonzero c =

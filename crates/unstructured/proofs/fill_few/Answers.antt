@@ -9,7 +9,7 @@ use Rattle.unstructured.proofs.fill_few.Goals as goal
 pub loop-i-init : goal.loop-i-init
 unfolding points_in
 loop-i-init c = let x = c.args in
-    (refl, tabled _ _ _ _ c.requires.usable_run.edges c.table_of-table.ensures, fill_starts x.setup x.list.now x.value_edges.now x.auto (point_in x.a_positions.now x.a_values.now x.a_weights.now x.a_stride) (point_in x.b_positions.now x.b_values.now x.b_weights.now x.b_stride) x.a_n x.b_n x.scratch.now c.requires.a_stride_value)
+    (refl, tabled _ _ _ _ c.requires.usable_run.edges c.table_of-table.ensures, fill_starts x.setup x.list.now x.value_edges.now x.auto (point_in x.a_positions.now x.a_values.now x.a_weights.now x.a_stride) (point_in x.b_positions.now x.b_values.now x.b_weights.now x.b_stride) x.a_n x.b_n x.scratch.now c.requires.auto_same)
 
 pub loop-i-preserved : goal.loop-i-preserved
 loop-i-preserved c = let t = c.loop-i in

@@ -11,10 +11,10 @@ drive-requires c = let x = c.args in
     let p = points_of x.set x.positions.now x.values.now x.weights.now in
     let h = c.run_refusal-number.ensures in
     let a = drivable true p p x.edges x.list.now x.kind x.value_edges.now x.shape x.pack.now _ h c.if-number-eq0.true (λ _. refl) in
-    record { held = a.0; held_2 = a.1.0; a_weights_value = a.1.1.0; drivable = a.1.1.1 }
+    record { a_held = a.0; b_held = a.1.0; auto_same = a.1.1.0; drivable = a.1.1.1 }
 
-pub returns-clause-result_value : goal.returns-clause-result_value
-returns-clause-result_value c =
+pub returns-clause-number : goal.returns-clause-number
+returns-clause-number c =
     let s = c.args.pack.now in
     let h = c.run_refusal-number.ensures in
     answer _ _ _ _ _ _ _ s _ h _ c.outcome_of.ensures
