@@ -100,6 +100,10 @@ fn next_call<F: Read>(
     }
 }
 
+fn report(rt: &HostRuntime, name: &str, calls: u64, differ: u64) -> io::Result<()> {
+    println!(rt; "{name} {calls} calls, {differ} differ")
+}
+
 fn word_room() -> [u64; 8192]
     ensures { 8192 ≡ length result }
 {
@@ -129,7 +133,7 @@ fn replay(rt: &HostRuntime, name: &str) -> io::Result<()> {
         }
         calls += 1;
     }
-    println!(rt; "{name} {calls} calls, {differ} differ")
+    report(rt, name, calls, differ)
 }
 
 fn main(rt: HostRuntime) -> io::Result<()> {
