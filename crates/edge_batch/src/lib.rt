@@ -82,6 +82,7 @@ fn number_for(inside: bool, e: RegularBinEdges, x: f64) -> usize
 }
 
 // A quotient's whole number where a guess is right, else the largest usize.
+#[tactic(auto, unfolding(crate::specs::Batch::sure_cut, crate::specs::Batch::is_sure))]
 fn sure_cut(q: f64) -> usize
     ensures { result ≡ sure_cut q }
 {

@@ -58,6 +58,7 @@ fn has_finite_ends(edges: &[f64]) -> bool
 }
 
 // Whether a slice is irregular edges. Increasing edges, the usual ones, are read once.
+#[tactic(auto, unfolding(definitions::specs::Bins::bins))]
 pub fn validate_bin_edges(edges: &[f64]) -> Validated
     ensures result_value { valid_number result ≡ refusal (edges_call_rules (irregular edges.now)) }
     ensures result_value_2 { valid_accepted result ≡ if_accepted (edges_call_rules (irregular edges.now)) true false }

@@ -66,6 +66,7 @@ pub fn total_key(x: f64) -> u64
 }
 
 // The float of a bit pattern; every NaN pattern is the one NaN.
+#[tactic(auto, using(crate::proofs::Patterns::pattern_nan, crate::proofs::Patterns::pattern_number))]
 pub fn from_bits(n: u64) -> f64
     ensures { result ≡ from_bits binary64 n }
 {

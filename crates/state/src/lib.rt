@@ -184,6 +184,7 @@ pub fn merge_full_statepacks(
 }
 
 // Packs of one shape end to end: packs 1, 2, .. are added in turn to pack 0.
+#[tactic(auto, using(crate::proofs::Packs::packs_few, crate::proofs::Refusals::packs_within))]
 pub fn serial_consolidate_scratch_statepacks(
     kind: StateKind,
     n_packs: usize,

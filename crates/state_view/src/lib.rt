@@ -20,6 +20,7 @@ pub enum StateNumber {
 }
 
 // The work of a view: the place is judged by division, so any numbers may be passed.
+#[tactic(auto, unfolding(crate::specs::View::seen))]
 pub fn strided_number(data: &[f64], len: usize, stride: usize, e: usize) -> StateNumber
     ensures { reading_of result ≡ seen «data».now len stride e }
 {

@@ -15,8 +15,9 @@ pub loop-q-preserved : goal.loop-q-preserved
 loop-q-preserved c = let t = c.loop-q in
     let h = c.loop-q-test.true in
     elim c.if-found-q-ge8192.branch [
-      then-found-q-ge8192 w ↦ each_next _ _ _ _ _ t.invariant _ _ h w.found-is (settled_marked _ _ _ _ _ _ _ w.if-found-q-ge8192.true w.settled_number.ensures)
-      | else-found-q-ge8192 w ↦ each_kept _ _ _ _ _ t.invariant _ h w.found-is (settled_kept _ _ _ _ _ _ w.if-found-q-ge8192.false) ]
+      | then-found-q-ge8192 w ↦ each_next _ _ _ _ _ t.invariant _ _ h w.found-is (settled_marked _ _ _ _ _ _ _ w.if-found-q-ge8192.true w.settled_number.ensures)
+      | else-found-q-ge8192 w ↦ each_kept _ _ _ _ _ t.invariant _ h w.found-is (settled_kept _ _ _ _ _ _ w.if-found-q-ge8192.false)
+    ]
 
 pub returns : goal.returns
 returns c = search each_done
