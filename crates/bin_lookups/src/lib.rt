@@ -21,8 +21,8 @@ pub enum Lookup {
 
 // Builds regular edges and looks a value up in them.
 pub fn regular_bin_index(min: f64, max: f64, n_bins: usize, value: f64) -> Lookup
-    ensures result_value { lookup_number result ≡ refusal (edges_call_rules (regular min max n_bins)) }
-    ensures result_value_2 { lookup_result result ≡ if_accepted (edges_call_rules (regular min max n_bins)) (some (find (regular min max n_bins) value)) none }
+    ensures number { lookup_number result ≡ refusal (edges_call_rules (regular min max n_bins)) }
+    ensures found { lookup_result result ≡ if_accepted (edges_call_rules (regular min max n_bins)) (some (find (regular min max n_bins) value)) none }
 {
     match RegularBinEdges::new(min, max, n_bins) {
         RegularNew::Refused(number) => Lookup::Refused(number),
@@ -32,8 +32,8 @@ pub fn regular_bin_index(min: f64, max: f64, n_bins: usize, value: f64) -> Looku
 
 // An accepted lookup's answer.
 fn found(index: BinIndex) -> Lookup
-    ensures result_value { lookup_number result ≡ 0 }
-    ensures result_value_2 { lookup_result result ≡ some (index_of index) }
+    ensures number { lookup_number result ≡ 0 }
+    ensures found { lookup_result result ≡ some (index_of index) }
 {
     match index {
         BinIndex::At(i) => Lookup::At(i),
@@ -43,8 +43,8 @@ fn found(index: BinIndex) -> Lookup
 
 // Looks irregular edges over and looks a value up in them.
 pub fn irregular_bin_index(edges: &[f64], value: f64) -> Lookup
-    ensures result_value { lookup_number result ≡ refusal (edges_call_rules (irregular edges.now)) }
-    ensures result_value_2 { lookup_result result ≡ if_accepted (edges_call_rules (irregular edges.now)) (some (find (irregular edges.now) value)) none }
+    ensures number { lookup_number result ≡ refusal (edges_call_rules (irregular edges.now)) }
+    ensures found { lookup_result result ≡ if_accepted (edges_call_rules (irregular edges.now)) (some (find (irregular edges.now) value)) none }
 {
     match edge_validation::validate_bin_edges(edges) {
         Validated::Refused(number) => Lookup::Refused(number),

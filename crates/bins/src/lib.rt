@@ -38,8 +38,8 @@ impl RegularBinEdges {
     // n_bins bins of one size from min to max. The refusals come in the paper's order.
     #[tactic(auto, using(crate::proofs::Regular::count_exact), unfolding(definitions::specs::Bins::bins))]
     pub fn new(min: f64, max: f64, n_bins: usize) -> RegularNew
-        ensures result_value { new_number result ≡ refusal (edges_call_rules (regular min max n_bins)) }
-        ensures result_value_2 { new_edges result ≡ if_accepted (edges_call_rules (regular min max n_bins)) (some (regular_of min max n_bins)) none }
+        ensures number { new_number result ≡ refusal (edges_call_rules (regular min max n_bins)) }
+        ensures edges { new_edges result ≡ if_accepted (edges_call_rules (regular min max n_bins)) (some (regular_of min max n_bins)) none }
     {
         if n_bins > MAX_BINS {
             return RegularNew::Refused(7);

@@ -47,8 +47,8 @@ fn is_increasing(edges: &[f64]) -> bool
 
 // The same of increasing edges: those between finite ones are finite.
 fn has_finite_ends(edges: &[f64]) -> bool
-    requires fact_1 { 2 ≤ length edges.now }
-    requires fact_2 { T (increasing edges.now) }
+    requires two_edges { 2 ≤ length edges.now }
+    requires increasing { T (increasing edges.now) }
     ensures { result ≡ all_finite edges.now }
 {
     if floats::is_finite(edges[0]) {
@@ -60,8 +60,8 @@ fn has_finite_ends(edges: &[f64]) -> bool
 // Whether a slice is irregular edges. Increasing edges, the usual ones, are read once.
 #[tactic(auto, unfolding(definitions::specs::Bins::bins))]
 pub fn validate_bin_edges(edges: &[f64]) -> Validated
-    ensures result_value { valid_number result ≡ refusal (edges_call_rules (irregular edges.now)) }
-    ensures result_value_2 { valid_accepted result ≡ if_accepted (edges_call_rules (irregular edges.now)) true false }
+    ensures number { valid_number result ≡ refusal (edges_call_rules (irregular edges.now)) }
+    ensures accepted { valid_accepted result ≡ if_accepted (edges_call_rules (irregular edges.now)) true false }
 {
     if edges.len() > MAX_BINS + 1 {
         return Validated::Refused(7);

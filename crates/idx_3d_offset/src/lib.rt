@@ -52,8 +52,8 @@ fn axes_fit(a: Axes) -> bool
 
 // How many offsets an axis has: from -(a - 1) to b - 1.
 fn axis_len(a: usize, b: usize) -> Num
-    requires fact_1 { Axis a }
-    requires fact_2 { Axis b }
+    requires a_axis { Axis a }
+    requires b_axis { Axis b }
     ensures { Counts result (axis_len a b) }
 {
     (a as Num) + (b as Num) - 1
@@ -61,8 +61,8 @@ fn axis_len(a: usize, b: usize) -> Num
 
 // How many offsets the three axes have.
 fn full_len(a: Axes, b: Axes) -> Num
-    requires fact_1 { Walkable a }
-    requires fact_2 { Walkable b }
+    requires a_walkable { Walkable a }
+    requires b_walkable { Walkable b }
     ensures { Counts result (length (cross_seq a b)) }
 {
     axis_len(a.z, b.z) * axis_len(a.y, b.y) * axis_len(a.x, b.x)
@@ -78,8 +78,8 @@ fn middle(a: Axes) -> Num
 
 // Number k of an axis' offsets, counted from -(a - 1).
 fn axis_offset(k: Num, a: usize) -> i64
-    requires fact_1 { Counts k (nat_abs k) }
-    requires fact_2 { Axis a }
+    requires k_natural { Counts k (nat_abs k) }
+    requires a_axis { Axis a }
     ensures { result ≡ sub_ℕ (nat_abs k) (a - 1) }
 {
     (k - (a as Num - 1)) as i64
@@ -87,9 +87,9 @@ fn axis_offset(k: Num, a: usize) -> i64
 
 // Number i of all offsets.
 fn offset_at(a: Axes, b: Axes, i: Num) -> Idx3DOffset
-    requires fact_1 { Walkable a }
-    requires fact_2 { Walkable b }
-    requires fact_3 { Counts i (nat_abs i) }
+    requires a_walkable { Walkable a }
+    requires b_walkable { Walkable b }
+    requires i_natural { Counts i (nat_abs i) }
     ensures { idx_of result ≡ offset_number a b (nat_abs i) }
 {
     let len_y = axis_len(a.y, b.y);

@@ -16,8 +16,8 @@ pub enum Segment {
 
 // The bounds of one of n_segments segments of n_indices indices: the sizes differ by at most one, and the longer segments come first.
 pub fn segment_idx_bounds(n_indices: usize, seg_index: usize, n_segments: usize) -> Segment
-    ensures result_value { segment_number result ≡ refusal (segment_rules seg_index n_segments) }
-    ensures result_value_2 { segment_bounds result ≡ if_accepted (segment_rules seg_index n_segments)
+    ensures number { segment_number result ≡ refusal (segment_rules seg_index n_segments) }
+    ensures bounds { segment_bounds result ≡ if_accepted (segment_rules seg_index n_segments)
         (some (segment_start n_indices n_segments seg_index, segment_stop n_indices n_segments seg_index)) none }
 {
     if seg_index < n_segments {

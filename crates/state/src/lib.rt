@@ -139,7 +139,7 @@ pub fn reset_full_statepack(
     state_size: usize,
     pack: &mut [f64],
 ) -> Outcome
-    ensures result_value { number_of result ≡ met (refusal (reset_rules (state_kind_of kind) n_states state_size (length pack.old))) }
+    ensures number { number_of result ≡ met (refusal (reset_rules (state_kind_of kind) n_states state_size (length pack.old))) }
     ensures pack_after { pack.new ≡ if_accepted (reset_rules (state_kind_of kind) n_states state_size (length pack.old))
         (reset_pack (n_states * state_size) pack.old) pack.old }
 {
@@ -161,7 +161,7 @@ pub fn merge_full_statepacks(
     pack: &mut [f64],
     other: &[f64],
 ) -> Outcome
-    ensures result_value { number_of result ≡ met (refusal (merge_rules (state_kind_of kind) n_states state_size other_states other_size
+    ensures number { number_of result ≡ met (refusal (merge_rules (state_kind_of kind) n_states state_size other_states other_size
         (length pack.old) (length other.now))) }
     ensures pack_after { pack.new ≡ if_accepted (merge_rules (state_kind_of kind) n_states state_size other_states other_size
         (length pack.old) (length other.now))
@@ -192,7 +192,7 @@ pub fn serial_consolidate_scratch_statepacks(
     state_size: usize,
     packs: &mut [f64],
 ) -> Outcome
-    ensures result_value { number_of result ≡ met (refusal (consolidate_rules (state_kind_of kind) n_packs n_states state_size (length packs.old))) }
+    ensures number { number_of result ≡ met (refusal (consolidate_rules (state_kind_of kind) n_packs n_states state_size (length packs.old))) }
     ensures packs_after { packs.new ≡ if_accepted (consolidate_rules (state_kind_of kind) n_packs n_states state_size (length packs.old))
         (consolidate_packs n_packs (n_states * state_size) packs.old) packs.old }
 {
@@ -222,7 +222,7 @@ pub fn value_from_accum_state(
     pack: &[f64],
     value: &mut [f64],
 ) -> Outcome
-    ensures result_value { number_of result ≡ met (refusal (result_rules (state_kind_of kind) n_states state_size index (length pack.now) (length value.old))) }
+    ensures number { number_of result ≡ met (refusal (result_rules (state_kind_of kind) n_states state_size index (length pack.now) (length value.old))) }
     ensures value_after { value.new ≡ if_accepted (result_rules (state_kind_of kind) n_states state_size index (length pack.now) (length value.old))
         (result_value (state_kind_of kind) n_states index pack.now value.old) value.old }
 {

@@ -5,4 +5,4 @@ use Rattle.capi.proofs.pairstat_merge_full_statepacks.Goals as goal
 
 pub returns : goal.returns
 returns c = both (λ a b. record { value = a; pack_after = b }) (let k = c.state_kind_from-kind.ensures in
-    rw (← k) (said _ _ _ c.number_from.ensures c.merge_full_statepacks.ensures.result_value, c.merge_full_statepacks.ensures.pack_after))
+    rw (← k) (said _ _ _ c.number_from.ensures c.merge_full_statepacks.ensures.number, c.merge_full_statepacks.ensures.pack_after))

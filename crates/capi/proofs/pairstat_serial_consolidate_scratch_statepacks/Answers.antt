@@ -5,4 +5,4 @@ use Rattle.capi.proofs.pairstat_serial_consolidate_scratch_statepacks.Goals as g
 
 pub returns : goal.returns
 returns c = both (λ a b. record { value = a; packs_after = b }) (let k = c.state_kind_from-kind.ensures in
-    rw (← k) (said _ _ _ c.number_from.ensures c.serial_consolidate_scratch_statepacks.ensures.result_value, c.serial_consolidate_scratch_statepacks.ensures.packs_after))
+    rw (← k) (said _ _ _ c.number_from.ensures c.serial_consolidate_scratch_statepacks.ensures.number, c.serial_consolidate_scratch_statepacks.ensures.packs_after))

@@ -17,18 +17,18 @@ pub overflow_add-middle-then-i-auto_len : goal.overflow_add-middle-then-i-auto_l
 overflow_add-middle-then-i-auto_len c = let h = auto_small c.args.a c.args.i _ c.auto_len.ensures c.if-i-auto_len.true in
     sum_fits num tt (sum num tt (held num tt c.middle.ensures) (literal _ (omega arith)) (omega arith)) (natural num tt c.args.i (omega arith)) (omega arith)
 
-pub offset_at-requires-clause-fact_1 : goal.offset_at-requires-clause-fact_1
-offset_at-requires-clause-fact_1 c =
+pub offset_at-requires-clause-a_walkable : goal.offset_at-requires-clause-a_walkable
+offset_at-requires-clause-a_walkable c =
     let h = auto_small c.args.a c.args.i _ c.auto_len.ensures c.if-i-auto_len.true in
     search auto_fits
 
-pub offset_at-requires-clause-fact_2 : goal.offset_at-requires-clause-fact_2
-offset_at-requires-clause-fact_2 c =
+pub offset_at-requires-clause-b_walkable : goal.offset_at-requires-clause-b_walkable
+offset_at-requires-clause-b_walkable c =
     let h = auto_small c.args.a c.args.i _ c.auto_len.ensures c.if-i-auto_len.true in
     search auto_fits
 
-pub offset_at-requires-clause-fact_3 : goal.offset_at-requires-clause-fact_3
-offset_at-requires-clause-fact_3 c =
+pub offset_at-requires-clause-i_natural : goal.offset_at-requires-clause-i_natural
+offset_at-requires-clause-i_natural c =
     let h = auto_small c.args.a c.args.i _ c.auto_len.ensures c.if-i-auto_len.true in
     own _ _ (sum num tt (sum num tt (held num tt c.middle.ensures) (literal _ (omega arith)) (omega arith)) (natural num tt c.args.i (omega arith)) (omega arith))
 

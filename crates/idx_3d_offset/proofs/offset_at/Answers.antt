@@ -10,30 +10,30 @@ use Rattle.idx_3d_offset.specs.Offsets.{offset_number}
 use Rattle.idx_3d_offset.proofs.offset_at.Goals as goal
 
 pub nonzero_div-row : goal.nonzero_div-row
-nonzero_div-row c = division num tt (held num tt c.requires.fact_3) c.axis_len-len_x.ensures (omega arith)
+nonzero_div-row c = division num tt (held num tt c.requires.i_natural) c.axis_len-len_x.ensures (omega arith)
 
 pub nonzero_div-row-2 : goal.nonzero_div-row-2
-nonzero_div-row-2 c = division num tt (quotient num tt (held num tt c.requires.fact_3) (held num tt c.axis_len-len_x.ensures)) c.axis_len-len_y.ensures (omega arith)
+nonzero_div-row-2 c = division num tt (quotient num tt (held num tt c.requires.i_natural) (held num tt c.axis_len-len_x.ensures)) c.axis_len-len_y.ensures (omega arith)
 
-pub axis_offset-requires-clause-fact_1 : goal.axis_offset-requires-clause-fact_1
-axis_offset-requires-clause-fact_1 c = own _ _ (quotient num tt (quotient num tt (held num tt c.requires.fact_3) (held num tt c.axis_len-len_x.ensures)) (held num tt c.axis_len-len_y.ensures))
+pub axis_offset-requires-clause-k_natural : goal.axis_offset-requires-clause-k_natural
+axis_offset-requires-clause-k_natural c = own _ _ (quotient num tt (quotient num tt (held num tt c.requires.i_natural) (held num tt c.axis_len-len_x.ensures)) (held num tt c.axis_len-len_y.ensures))
 
 pub nonzero_rem-row : goal.nonzero_rem-row
-nonzero_rem-row c = division num tt (quotient num tt (held num tt c.requires.fact_3) (held num tt c.axis_len-len_x.ensures)) c.axis_len-len_y.ensures (omega arith)
+nonzero_rem-row c = division num tt (quotient num tt (held num tt c.requires.i_natural) (held num tt c.axis_len-len_x.ensures)) c.axis_len-len_y.ensures (omega arith)
 
-pub axis_offset-requires-2-clause-fact_1 : goal.axis_offset-requires-2-clause-fact_1
-axis_offset-requires-2-clause-fact_1 c = own _ _ (remainder num tt (quotient num tt (held num tt c.requires.fact_3) (held num tt c.axis_len-len_x.ensures)) (held num tt c.axis_len-len_y.ensures))
+pub axis_offset-requires-2-clause-k_natural : goal.axis_offset-requires-2-clause-k_natural
+axis_offset-requires-2-clause-k_natural c = own _ _ (remainder num tt (quotient num tt (held num tt c.requires.i_natural) (held num tt c.axis_len-len_x.ensures)) (held num tt c.axis_len-len_y.ensures))
 
 pub nonzero_rem-i : goal.nonzero_rem-i
-nonzero_rem-i c = division num tt (held num tt c.requires.fact_3) c.axis_len-len_x.ensures (omega arith)
+nonzero_rem-i c = division num tt (held num tt c.requires.i_natural) c.axis_len-len_x.ensures (omega arith)
 
-pub axis_offset-requires-3-clause-fact_1 : goal.axis_offset-requires-3-clause-fact_1
-axis_offset-requires-3-clause-fact_1 c = own _ _ (remainder num tt (held num tt c.requires.fact_3) (held num tt c.axis_len-len_x.ensures))
+pub axis_offset-requires-3-clause-k_natural : goal.axis_offset-requires-3-clause-k_natural
+axis_offset-requires-3-clause-k_natural c = own _ _ (remainder num tt (held num tt c.requires.i_natural) (held num tt c.axis_len-len_x.ensures))
 
 pub returns : goal.returns
 unfolding offset_number
 returns c = let a = c.args.a in
-    let i = held num tt c.requires.fact_3 in
+    let i = held num tt c.requires.i_natural in
     let x = held num tt c.axis_len-len_x.ensures in
     let y = held num tt c.axis_len-len_y.ensures in
     let row = quotient num tt i x in
