@@ -1,6 +1,6 @@
 -- Finding the bin. Definitions only.
 use Rattle.std.proofs.Math.Option.{Option, none, some}
-use Rattle.std.specs.Prelude.{List, Bool, cond, ◌||◌, ℕ, zero, suc, ◌-◌, ltb, length, pos, Float}
+use Rattle.std.specs.Prelude.{List, cond, ◌||◌, ℕ, zero, suc, ◌-◌, ltb, length, pos, Float}
 use Rattle.std.specs.Float.{binary64}
 use Rattle.std.specs.Float.Ieee.{sub, div, lt, le, is_nan, of_int}
 use Rattle.definitions.specs.Lists.{at}

@@ -1,6 +1,6 @@
 -- The marked readings K1 to K12 as one claim, and what they speak of.
 use Rattle.std.specs.Prelude.{◌≡◌, List, [], ◌∷◌, map, true, false, cond, ℕ, ◌*◌, length, replicate, ℤ, pos, negsuc, Float}
-use Rattle.std.proofs.Math.Option.{Option, none, some}
+use Rattle.std.proofs.Math.Option.{none, some}
 use Rattle.std.specs.Float.{nan, binary64}
 use Rattle.std.specs.Float.Ieee.{of_int, of_bits, to_bits}
 use Rattle.definitions.specs.Lists.{upto, flat_map}

@@ -1,6 +1,6 @@
 -- A pair, its datum, and what the datum adds to a state. Definitions only.
 use Rattle.std.proofs.Math.Option.{Option, none, some}
-use Rattle.std.specs.Prelude.{Bool, cond, ℕ, zero, suc, eqb, Float}
+use Rattle.std.specs.Prelude.{cond, ℕ, zero, suc, eqb, Float}
 use Rattle.std.specs.Float.{binary64}
 use Rattle.std.specs.Float.Ieee.{add, sub, mul}
 use Rattle.definitions.specs.Bins.{Edges, bins, bin_of}

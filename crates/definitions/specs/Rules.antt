@@ -1,6 +1,6 @@
 -- Operations and where each stops: every rule and limit with its number, a table for each operation, in the stated order. Definitions only.
 use Rattle.std.proofs.Math.Option.{Option, none, some}
-use Rattle.std.specs.Prelude.{List, [], ◌∷◌, ◌++◌, Bool, true, false, not, cond, ◌&&◌, ◌||◌, ℕ, ◌+◌, ◌-◌, ◌*◌, ◌/◌, ◌%◌, leb, ltb, eqb, length, ℤ, nat_abs, Float}
+use Rattle.std.specs.Prelude.{List, [], ◌∷◌, ◌++◌, Bool, true, false, not, cond, ◌&&◌, ◌||◌, ℕ, ◌*◌, ◌/◌, ◌%◌, leb, ltb, eqb, length, ℤ, nat_abs, Float}
 use Rattle.std.specs.Int.Signed.{lt_z}
 use Rattle.std.specs.Float.{binary64}
 use Rattle.std.specs.Float.Ieee.{sub, lt, le, eq}

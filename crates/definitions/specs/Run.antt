@@ -1,12 +1,12 @@
 -- One run, read downward. `drive_reduce` of the Rust is the reference. Definitions only; which runs are accepted is Rules'.
 use Rattle.std.proofs.Math.Option.{Option, none, some}
-use Rattle.std.specs.Prelude.{List, Bool, false, cond, ℕ, ◌+◌, ◌*◌, ◌/◌, ◌%◌, Float}
+use Rattle.std.specs.Prelude.{List, false, cond, ℕ, ◌+◌, ◌*◌, ◌/◌, ◌%◌, Float}
 use Rattle.std.specs.Float.{binary64}
 use Rattle.std.specs.Float.Ieee.{add}
-use Rattle.definitions.specs.Lists.{at, upto, overwritten, fold_at, later_pairs, all_pairs}
+use Rattle.definitions.specs.Lists.{at, overwritten, fold_at, later_pairs, all_pairs}
 use Rattle.definitions.specs.Floats.{zero_f}
 use Rattle.definitions.specs.Bins.{Edges, bins, bin_of}
-use Rattle.definitions.specs.Points.{Reading, Point, UnstructuredPoints, points, squared_diff_norm}
+use Rattle.definitions.specs.Points.{Point, UnstructuredPoints, points, squared_diff_norm}
 use Rattle.definitions.specs.Blocks.{CartesianBlock, CellWidth, Cell, Idx3DOffset, reading_at, offsets_of, is_after, cell_pairs, distance_squared}
 use Rattle.definitions.specs.Reducer.{PairOperation, Kind, kind_size, Pair, pair_in, pair_term, datum_of, datum_term, in_bin}
 

@@ -1,6 +1,6 @@
 -- The state pack by itself: reset, merge, consolidation, result. Definitions only; which calls are accepted is Rules'.
 use Rattle.std.proofs.Math.Option.{some}
-use Rattle.std.specs.Prelude.{List, false, ℕ, zero, suc, ◌+◌, ◌-◌, ◌*◌, Float}
+use Rattle.std.specs.Prelude.{List, false, ℕ, zero, suc, ◌+◌, ◌*◌, Float}
 use Rattle.std.specs.Float.{binary64}
 use Rattle.std.specs.Float.Ieee.{add, div}
 use Rattle.definitions.specs.Lists.{at, range, overwritten, fold_at}

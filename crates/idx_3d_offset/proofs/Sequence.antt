@@ -13,7 +13,7 @@ use lib.ListN.{length, get_elem?}
 use lib.IntN.{ℤ, sub_ℕ}
 use lib.Ieee.{Float}
 use Rattle.definitions.specs.Lists.{range, upto, fold_at}
-use Rattle.definitions.specs.Blocks.{Idx3DOffset, offsets, axes_offsets, after, is_after}
+use Rattle.definitions.specs.Blocks.{Idx3DOffset, axes_offsets, is_after}
 use Rattle.idx_3d_offset.proofs.Signed.{sub_cases}
 use Rattle.idx_3d_offset.specs.declared.Axes.{Axes}
 use Rattle.idx_3d_offset.specs.Offsets.{those, axis_fits, walkable, cross_seq, auto_seq, Within, Reach, Axis, Walkable, Counts, axis_len, cross_len, middle_of, offset_number}

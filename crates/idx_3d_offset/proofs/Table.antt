@@ -14,7 +14,7 @@ use lib.ListN.{length, get_elem?}
 use lib.IntN.{pos, negsuc, sub_ℕ}
 use lib.Ieee.{Float}
 use Rattle.definitions.specs.Lists.{range, upto, flat_map, add_opt, fold_at}
-use Rattle.definitions.specs.Blocks.{Idx3DOffset, offsets, axes_offsets, is_pos, is_zero, after, is_after}
+use Rattle.definitions.specs.Blocks.{Idx3DOffset, offsets, axes_offsets, is_pos, is_zero, is_after}
 use Rattle.laws.proofs.Loops.{flat_map_law}
 use Rattle.idx_3d_offset.specs.Offsets.{those, axis_len}
 

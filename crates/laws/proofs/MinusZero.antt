@@ -1,18 +1,18 @@
 -- A sum whose first summand is not -0 is not -0: so a total that starts from +0 never becomes -0.
 use mathlib.Core.Path.{◌≡◌, refl, sym, ◌∙◌, ap, subst}
-use mathlib.Core.Bool.{Bool, true, false, not, cond, ◌&&◌, beq}
-use Prim.Native.Nat.{ℕ, zero, suc, ◌+◌, ◌-◌, ◌*◌, ◌/◌, ◌%◌, ◌^◌, ◌<◌, ◌≤◌, compare, Ordering}
-use native.Mathlib.Nat.{mul-one, one-mul, mul_assoc, mul_comm, mul_right_comm, mul_left_comm, mul-pos, zero-mul, lt_irrefl, le_trans, le_of_eq, le_of_lt, lt_of_lt_of_le, le-div_iff_mul-le, zero-lt-suc, mul-le-mul_right, mul-sub, lt_of_mul-lt-mul_right, mul-lt-mul_of_pos_right, add-mul, sub-zero}
+use mathlib.Core.Bool.{Bool, true, false, cond}
+use Prim.Native.Nat.{ℕ, zero, suc, ◌+◌, ◌-◌, ◌*◌, ◌/◌, ◌%◌, ◌^◌, ◌<◌, ◌≤◌, compare}
+use native.Mathlib.Nat.{one-mul, mul_assoc, mul_comm, mul_left_comm, mul-pos, zero-mul, lt_irrefl, le_trans, le_of_eq, le-div_iff_mul-le, zero-lt-suc, mul-le-mul_right, mul-sub, lt_of_mul-lt-mul_right, mul-lt-mul_of_pos_right, add-mul, sub-zero}
 use native.Mathlib.Omega.{arith}
 use lib.IntN.{ℤ, pos, negsuc}
-use lib.Dec.{T, ltb, eqb, eqb→eq}
+use lib.Dec.{T, ltb, eqb→eq}
 use lib.Pow.{pow_pos, pow-add}
-use lib.Ieee.{Float, nan, inf, fin, Format, binary64, prec, emax, low, up, down, size, nearest, odd, units, round, sum, add, fits}
+use lib.Ieee.{Float, nan, inf, fin, binary64, up, down, size, nearest, odd, units, round, add, fits}
 use lib.Ieee.Fits.{down_pos, up_pos}
 use lib.Ieee.Exact.{HasValue, odd_sign}
 use lib.Ieee.Digits.{size-lt, size_reaches}
 use lib.Ieee.Nearest.{nearest-ge}
-use borrow.Author.Tests.{ltb-true, ltb-false, lt-ltb, le-ltb}
+use borrow.Author.Tests.{ltb-true}
 use Rattle.laws.proofs.PlusZero.{not_minus0, exponent_le, flat, fit}
 
 plus_ok : (m : ℕ) (e : ℤ) → T (not_minus0 (fin false m e))

@@ -7,7 +7,7 @@ use Prim.Native.Nat.{ℕ, zero, suc, ◌+◌, ◌-◌, ◌/◌, ◌%◌}
 use native.Mathlib.Nat.{zero-add}
 use native.Mathlib.Omega.{arith}
 use lib.Dec.{T, ltb, eqb}
-use lib.ListN.{length, take, drop}
+use lib.ListN.{length, take}
 use lib.Seq.{take-length}
 use lib.Ieee.{Float, binary64, add, mul, fits}
 use lib.Ieee.Fits.{add-fits, mul-fits}
@@ -15,8 +15,8 @@ use Rattle.definitions.specs.Lists.{at, range, upto, flat_map, add_opt, fold_at,
 use Rattle.definitions.specs.Floats.{zero_f}
 use Rattle.definitions.specs.Bins.{bins, find, below, bin_of}
 use Rattle.definitions.specs.Points.{Point, point_at, squared_diff_norm}
-use Rattle.definitions.specs.Blocks.{Idx3DOffset, offsets_of, is_after}
-use Rattle.definitions.specs.Reducer.{Datum, datum_of, datum_term, Pair, kept, dropped, pair_in, pair_term, mean_term, in_bin, Kind, comp0_mean, component_sum_mean, component_sum_histogram}
+use Rattle.definitions.specs.Blocks.{offsets_of, is_after}
+use Rattle.definitions.specs.Reducer.{Datum, datum_of, datum_term, kept, dropped, pair_in, pair_term, mean_term, in_bin, Kind, comp0_mean, component_sum_mean, component_sum_histogram}
 use Rattle.definitions.specs.Run.{Run, Sets, one_points, two_points, one_block, two_blocks, used, state_at, number_at, pair_at, offset_at, scratch_of, scratch, merged}
 use Rattle.definitions.specs.Segments.{segment_start, segment_size}
 use Rattle.laws.proofs.PlusZero.{not_minus0, add_plus0}

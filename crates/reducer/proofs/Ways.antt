@@ -3,7 +3,7 @@ use mathlib.Core.Path.{◌≡◌, refl, sym, ap, subst, ◌∙◌}
 use mathlib.Core.Option.{Option, none, some, some-injective, some-ne-none}
 use mathlib.Core.Bool.{Bool, true, false, cond, ◌&&◌, true≢false}
 use mathlib.Core.List.{List}
-use Prim.Native.Nat.{ℕ, ◌+◌, ◌-◌, ◌*◌, ◌<◌, ◌≤◌}
+use Prim.Native.Nat.{ℕ, ◌-◌, ◌*◌, ◌<◌, ◌≤◌}
 use native.Mathlib.Nat.{mul_comm, mul-le-mul, mul-le-mul_right, add-mul, one-mul}
 use native.Mathlib.Omega.{arith}
 use lib.Dec.{leb, ltb}
@@ -28,7 +28,7 @@ use Rattle.reducer.specs.declared.BuiltEdges.TheVariants.{Regular, Irregular}
 use Rattle.reducer.specs.declared.Reducer.{Reducer}
 use Rattle.reducer.specs.declared.Reducer.TheVariants.{Comp0Mean, ComponentSumMean, ComponentSumHistogram}
 use Rattle.reducer.specs.declared.Datum.{Datum}
-use Rattle.reducer.specs.Readings.{op_of, the_datum, reading_of}
+use Rattle.reducer.specs.Readings.{op_of, reading_of}
 use Rattle.reducer.specs.Consume.{built_bins, built_find, built_bin, reducer_size, has_room, add_in, value_bin, added_at, consumed_at, consumed}
 
 -- ---- a mean's total and weight

@@ -8,7 +8,7 @@ use native.Mathlib.Omega.{arith}
 use lib.Dec.{ltb, eqb}
 use borrow.Author.Tests.{lt-ltb, le-ltb, eq-eqb, ne_eqb, ltb-true, ltb-false}
 use Rattle.definitions.specs.Reducer.{StateKind, mean, histogram, state_size}
-use Rattle.definitions.specs.Rules.{rule, refusal, over_state, over_pack, no_bins, bad_shape, reset_rules, merge_rules, consolidate_rules, result_rules}
+use Rattle.definitions.specs.Rules.{rule, refusal, over_state, over_pack, no_bins, bad_shape, merge_rules, result_rules}
 use Rattle.laws.proofs.Refusals.{or_else, refusal_append}
 
 -- ---- a product against a limit, by division

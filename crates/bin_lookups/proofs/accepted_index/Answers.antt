@@ -1,5 +1,4 @@
 use Rattle.bins.proofs.Irregular.{index_outside, index_inside}
-use borrow.Author.Rules.{rules}
 use Rattle.bin_lookups.proofs.accepted_index.Goals as goal
 
 pub returns-then-outside : goal.returns-then-outside

@@ -1,6 +1,5 @@
 use mathlib.Core.Path.{refl}
 use Rattle.bin_lookups.proofs.Lookups.{found_at, found_none}
-use borrow.Author.Rules.{rules}
 use Rattle.bin_lookups.proofs.found.Goals as goal
 
 pub returns-in-At-clause-number : goal.returns-in-At-clause-number

@@ -1,5 +1,4 @@
 use Rattle.bin_lookups.proofs.Lookups.{valid_number_law, irregular_refused, ready_finite, ready_increasing, irregular_number, irregular_found}
-use borrow.Author.Rules.{rules}
 use Rattle.bin_lookups.proofs.irregular_bin_index.Goals as goal
 
 pub accepted_index-requires : goal.accepted_index-requires

@@ -1,8 +1,6 @@
-use Prim.Native.Nat.{◌≤◌, ◌-◌}
 use native.Mathlib.Omega.{arith}
-use lib.ListN.{length}
 use borrow.Author.Rules.{rules}
-use Rattle.bins.proofs.Irregular.{AtMost, Above, halves_up, halves_down, halves_none, halves_at}
+use Rattle.bins.proofs.Irregular.{halves_up, halves_down, halves_none, halves_at}
 use Rattle.bin_lookups.proofs.last_by_halves.Goals as goal
 
 pub loop-lo-init : goal.loop-lo-init

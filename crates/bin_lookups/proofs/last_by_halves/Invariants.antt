@@ -1,8 +1,6 @@
 use Prim.Native.Nat.{◌≤◌, ◌-◌}
-use native.Mathlib.Omega.{arith}
 use lib.ListN.{length}
-use borrow.Author.Rules.{rules}
-use Rattle.bins.proofs.Irregular.{AtMost, Above, halves_up, halves_down, halves_none, halves_at}
+use Rattle.bins.proofs.Irregular.{AtMost, Above}
 use Rattle.bin_lookups.proofs.last_by_halves.Given as goal
 
 abbrev pub invariant-loop-lo : goal.invariant-loop-lo

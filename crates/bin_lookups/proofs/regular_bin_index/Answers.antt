@@ -1,5 +1,4 @@
 use Rattle.bin_lookups.proofs.Lookups.{new_number_law, regular_refused, regular_number, regular_found}
-use borrow.Author.Rules.{rules}
 use Rattle.bin_lookups.proofs.regular_bin_index.Goals as goal
 
 pub returns-in-Refused-clause-number : goal.returns-in-Refused-clause-number

@@ -1,9 +1,4 @@
-use mathlib.Core.Path.{◌≡◌}
-use Prim.Native.Nat.{◌≤◌}
 use native.Mathlib.Omega.{arith}
-use lib.ListN.{length}
-use borrow.Author.Rules.{rules}
-use Rattle.definitions.specs.Bins.{last_edge}
 use Rattle.bins.proofs.Irregular.{scan_found, scan_again, scan_done}
 use Rattle.bins.proofs.last_by_scan.Goals as goal
 

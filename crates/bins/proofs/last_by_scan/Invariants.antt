@@ -1,10 +1,7 @@
 use mathlib.Core.Path.{◌≡◌}
 use Prim.Native.Nat.{◌≤◌}
-use native.Mathlib.Omega.{arith}
 use lib.ListN.{length}
-use borrow.Author.Rules.{rules}
 use Rattle.definitions.specs.Bins.{last_edge}
-use Rattle.bins.proofs.Irregular.{scan_found, scan_again, scan_done}
 use Rattle.bins.proofs.last_by_scan.Given as goal
 
 abbrev pub invariant-loop-i : goal.invariant-loop-i

@@ -1,5 +1,4 @@
 use Rattle.bins.proofs.Irregular.{outside_outcomes}
-use borrow.Author.Rules.{rules}
 use Rattle.bins.proofs.outside.Goals as goal
 
 pub returns-then-is_nan : goal.returns-then-is_nan

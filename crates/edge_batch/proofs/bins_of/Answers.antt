@@ -1,5 +1,4 @@
 use Rattle.edge_batch.proofs.Batch.{found_unlike, found_settled, found_sure}
-use borrow.Author.Rules.{rules}
 use Rattle.edge_batch.proofs.bins_of.Goals as goal
 
 pub returns-then-found-x : goal.returns-then-found-x

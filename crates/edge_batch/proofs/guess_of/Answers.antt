@@ -1,9 +1,7 @@
-use borrow.Author.Rules.{rules}
 use mathlib.Core.Path.{ap}
 use Prim.Native.Nat.{ℕ, ◌/◌, ◌%◌}
 use native.Mathlib.Omega.{arith}
 use Rattle.edge_batch.specs.Batch.{guess_of}
-use borrow.Author.Rules.{rules}
 use Rattle.edge_batch.proofs.guess_of.Goals as goal
 
 pub returns : goal.returns

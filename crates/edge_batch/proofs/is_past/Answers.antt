@@ -1,4 +1,3 @@
-use borrow.Author.Rules.{rules}
 use Rattle.edge_batch.proofs.Cuts.{past_never, past_low, past_high}
 use Rattle.edge_batch.proofs.is_past.Goals as goal
 

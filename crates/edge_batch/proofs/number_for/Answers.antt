@@ -1,6 +1,4 @@
-use borrow.Author.Rules.{rules}
 use Rattle.edge_batch.proofs.Cuts.{number_past, number_whole}
-use borrow.Author.Rules.{rules}
 use Rattle.edge_batch.proofs.number_for.Goals as goal
 
 pub returns-then-is_past : goal.returns-then-is_past

@@ -1,8 +1,5 @@
 use borrow.Author.Rules.{rules}
-use lib.ListN.{length}
-use Prim.Native.Nat.{◌-◌}
-use Rattle.edge_table.specs.Table.{place_of}
-use Rattle.edge_batch.proofs.Loops.{Done, each_start, each_set, values_done}
+use Rattle.edge_batch.proofs.Loops.{each_start, each_set, values_done}
 use Rattle.edge_batch.proofs.places_of.Goals as goal
 
 pub loop-q-init : goal.loop-q-init

@@ -1,9 +1,5 @@
 use borrow.Author.Rules.{rules}
-use mathlib.Core.Logic.{⊎_elim}
-use lib.ListN.{length}
-use Prim.Native.Nat.{◌-◌}
-use Rattle.edge_batch.specs.Batch.{settled_or}
-use Rattle.edge_batch.proofs.Loops.{Done, each_start, each_next, each_kept, each_done}
+use Rattle.edge_batch.proofs.Loops.{each_start, each_next, each_kept, each_done}
 use Rattle.edge_batch.proofs.Batch.{settled_marked, settled_kept}
 use Rattle.edge_batch.proofs.settle.Goals as goal
 use Rattle.edge_batch.proofs.settle.Goals.{then-found-q-ge8192, else-found-q-ge8192}

@@ -1,10 +1,7 @@
-use borrow.Author.Rules.{rules}
-use mathlib.Core.Logic.{⊎_elim}
 use lib.ListN.{length}
 use Prim.Native.Nat.{◌-◌}
 use Rattle.edge_batch.specs.Batch.{settled_or}
-use Rattle.edge_batch.proofs.Loops.{Done, each_start, each_next, each_kept, each_done}
-use Rattle.edge_batch.proofs.Batch.{settled_marked, settled_kept}
+use Rattle.edge_batch.proofs.Loops.{Done}
 use Rattle.edge_batch.proofs.settle.Given as goal
 
 abbrev pub invariant-loop-q : goal.invariant-loop-q

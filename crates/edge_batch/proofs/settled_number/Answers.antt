@@ -1,5 +1,4 @@
 use Rattle.edge_batch.proofs.Batch.{settled_regular, settled_past, settled_shown, settled_located}
-use borrow.Author.Rules.{rules}
 use Rattle.edge_batch.proofs.settled_number.Goals as goal
 
 pub returns-then-flag-eq0 : goal.returns-then-flag-eq0

@@ -1,9 +1,6 @@
 use borrow.Author.Rules.{rules}
-use Prim.Native.Nat.{ℕ, ◌-◌, ◌<◌, ◌≤◌}
 use native.Mathlib.Omega.{arith}
-use lib.ListN.{length, get_or}
-use Rattle.edge_table.specs.Table.{sure_at}
-use Rattle.edge_batch.proofs.Loops.{Done, each_start, each_set, each_done, most_next}
+use Rattle.edge_batch.proofs.Loops.{each_start, each_set, each_done, most_next}
 use Rattle.edge_batch.proofs.sure_bins.Goals as goal
 
 pub loop-q-init : goal.loop-q-init

@@ -1,5 +1,4 @@
 use Rattle.edge_batch.proofs.Cuts.{sure_past, sure_number_law}
-use borrow.Author.Rules.{rules}
 use Rattle.edge_batch.proofs.sure_number.Goals as goal
 
 pub returns-then-is_past : goal.returns-then-is_past

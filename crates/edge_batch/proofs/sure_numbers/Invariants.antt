@@ -1,9 +1,7 @@
-use borrow.Author.Rules.{rules}
 use Prim.Native.Nat.{ℕ, ◌-◌, ◌<◌, ◌≤◌}
-use native.Mathlib.Omega.{arith}
 use lib.ListN.{length, get_or}
 use Rattle.edge_batch.specs.Batch.{sure_number}
-use Rattle.edge_batch.proofs.Loops.{Done, each_start, each_set, values_done, most_next}
+use Rattle.edge_batch.proofs.Loops.{Done}
 use Rattle.edge_batch.proofs.sure_numbers.Given as goal
 
 abbrev pub invariant-loop-q : goal.invariant-loop-q

@@ -1,5 +1,4 @@
 use Rattle.edge_table.proofs.Ways.{bin_regular, bin_irregular}
-use borrow.Author.Rules.{rules}
 use Rattle.edge_table.proofs.bin_of.Goals as goal
 
 pub returns-in-Regular : goal.returns-in-Regular

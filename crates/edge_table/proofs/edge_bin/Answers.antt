@@ -1,5 +1,4 @@
 use Rattle.edge_table.proofs.Ways.{edge_outside, edge_located}
-use borrow.Author.Rules.{rules}
 use Rattle.edge_table.proofs.edge_bin.Goals as goal
 
 pub returns-then-is_outside : goal.returns-then-is_outside

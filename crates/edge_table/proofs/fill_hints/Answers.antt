@@ -1,5 +1,4 @@
 use Rattle.edge_table.proofs.Ways.{hints_irregular}
-use borrow.Author.Rules.{rules}
 use Rattle.edge_table.proofs.fill_hints.Goals as goal
 
 pub returns-in-Irregular : goal.returns-in-Irregular

@@ -1,5 +1,4 @@
 use Rattle.edge_table.proofs.Ways.{hints_histogram}
-use borrow.Author.Rules.{rules}
 use Rattle.edge_table.proofs.fill_value_hints.Goals as goal
 
 pub returns-in-ComponentSumHistogram : goal.returns-in-ComponentSumHistogram

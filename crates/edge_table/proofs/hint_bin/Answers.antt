@@ -1,5 +1,4 @@
 use Rattle.edge_table.proofs.Ways.{hinted_is}
-use borrow.Author.Rules.{rules}
 use Rattle.edge_table.proofs.hint_bin.Goals as goal
 
 pub returns : goal.returns

@@ -1,8 +1,5 @@
-use mathlib.Core.Path.{◌≡◌, refl}
-use Prim.Native.Nat.{◌-◌, ◌≤◌}
-use lib.ListN.{length}
+use mathlib.Core.Path.{refl}
 use borrow.Author.Rules.{rules}
-use Rattle.edge_table.specs.Table.{hints_of}
 use Rattle.edge_table.proofs.Ways.{hints_none, hints_next, hints_done}
 use Rattle.edge_table.proofs.hint_bins.Goals as goal
 

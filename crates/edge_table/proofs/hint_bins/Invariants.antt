@@ -1,9 +1,7 @@
-use mathlib.Core.Path.{◌≡◌, refl}
+use mathlib.Core.Path.{◌≡◌}
 use Prim.Native.Nat.{◌-◌, ◌≤◌}
 use lib.ListN.{length}
-use borrow.Author.Rules.{rules}
 use Rattle.edge_table.specs.Table.{hints_of}
-use Rattle.edge_table.proofs.Ways.{hints_none, hints_next, hints_done}
 use Rattle.edge_table.proofs.hint_bins.Given as goal
 
 abbrev pub invariant-loop-b : goal.invariant-loop-b

@@ -2,7 +2,6 @@ use mathlib.Core.Path.{ap}
 use Prim.Native.Nat.{ℕ, ◌%◌}
 use native.Mathlib.Omega.{arith}
 use Rattle.edge_table.specs.Table.{hint_place}
-use borrow.Author.Rules.{rules}
 use Rattle.edge_table.proofs.hint_place.Goals as goal
 
 pub returns : goal.returns

@@ -1,5 +1,4 @@
 use Rattle.edge_table.proofs.Tests.{enclosed_past, enclosed_is, enclosed_low}
-use borrow.Author.Rules.{rules}
 use Rattle.edge_table.proofs.is_enclosed.Goals as goal
 
 pub returns-then-h-n : goal.returns-then-h-n

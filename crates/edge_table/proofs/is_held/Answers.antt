@@ -1,5 +1,4 @@
 use Rattle.edge_table.proofs.Tests.{holds_nan, holds_past, holds_above, holds_is}
-use borrow.Author.Rules.{rules}
 use Rattle.edge_table.proofs.is_held.Goals as goal
 
 pub returns-then-is_nan : goal.returns-then-is_nan

@@ -1,5 +1,4 @@
 use Rattle.edge_table.proofs.Ways.{outside_nan, outside_low, outside_high}
-use borrow.Author.Rules.{rules}
 use Rattle.edge_table.proofs.is_outside.Goals as goal
 
 pub returns-then-is_nan : goal.returns-then-is_nan

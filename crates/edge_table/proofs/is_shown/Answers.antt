@@ -1,5 +1,4 @@
 use Rattle.edge_table.proofs.Tests.{shown_is, shown_zero}
-use borrow.Author.Rules.{rules}
 use Rattle.edge_table.proofs.is_shown.Goals as goal
 
 pub returns-then-x : goal.returns-then-x

@@ -1,6 +1,5 @@
 use native.Mathlib.Omega.{arith}
 use Rattle.edge_table.proofs.Ways.{taken_le, key_is}
-use borrow.Author.Rules.{rules}
 use Rattle.edge_table.proofs.key_of.Goals as goal
 
 pub overflow_mul-result-2 : goal.overflow_mul-result-2

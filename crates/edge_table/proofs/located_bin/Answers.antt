@@ -1,5 +1,4 @@
 use Rattle.edge_table.proofs.Tests.{located_shown, located_held, located_plain}
-use borrow.Author.Rules.{rules}
 use Rattle.edge_table.proofs.located_bin.Goals as goal
 
 pub returns-then-is_shown : goal.returns-then-is_shown

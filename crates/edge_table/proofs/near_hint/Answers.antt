@@ -1,6 +1,5 @@
 use native.Mathlib.Omega.{arith}
 use Rattle.edge_table.proofs.Tests.{near_below, near_above}
-use borrow.Author.Rules.{rules}
 use Rattle.edge_table.proofs.near_hint.Goals as goal
 
 pub returns-then-h-gt0 : goal.returns-then-h-gt0

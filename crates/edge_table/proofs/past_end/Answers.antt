@@ -1,6 +1,5 @@
 use native.Mathlib.Omega.{arith}
 use Rattle.edge_table.proofs.Tests.{past_never, past_is}
-use borrow.Author.Rules.{rules}
 use Rattle.edge_table.proofs.past_end.Goals as goal
 
 pub returns-then-inside : goal.returns-then-inside

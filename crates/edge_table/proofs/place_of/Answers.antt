@@ -2,7 +2,6 @@ use native.Mathlib.Omega.{arith}
 use lib.Ieee as Ieee
 use Rattle.edge_table.proofs.Ways.{bit_le}
 use Rattle.edge_table.proofs.Tests.{place_is}
-use borrow.Author.Rules.{rules}
 use Rattle.edge_table.proofs.place_of.Goals as goal
 
 pub overflow_mul-result-2 : goal.overflow_mul-result-2

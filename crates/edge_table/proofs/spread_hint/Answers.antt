@@ -1,9 +1,6 @@
-use mathlib.Core.Path.{◌≡◌, refl}
-use Prim.Native.Nat.{◌-◌, ◌≤◌}
+use mathlib.Core.Path.{refl}
 use native.Mathlib.Omega.{arith}
-use lib.ListN.{length}
 use borrow.Author.Rules.{rules}
-use Rattle.edge_table.specs.Table.{spread}
 use Rattle.edge_table.proofs.Ways.{spread_none, spread_next, spread_done}
 use Rattle.edge_table.proofs.spread_hint.Goals as goal
 

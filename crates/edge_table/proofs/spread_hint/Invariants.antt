@@ -1,10 +1,7 @@
-use mathlib.Core.Path.{◌≡◌, refl}
+use mathlib.Core.Path.{◌≡◌}
 use Prim.Native.Nat.{◌-◌, ◌≤◌}
-use native.Mathlib.Omega.{arith}
 use lib.ListN.{length}
-use borrow.Author.Rules.{rules}
 use Rattle.edge_table.specs.Table.{spread}
-use Rattle.edge_table.proofs.Ways.{spread_none, spread_next, spread_done}
 use Rattle.edge_table.proofs.spread_hint.Given as goal
 
 abbrev pub invariant-loop-i : goal.invariant-loop-i

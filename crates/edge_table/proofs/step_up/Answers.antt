@@ -2,7 +2,6 @@ use native.Mathlib.Omega.{arith}
 use lib.Ieee as Ieee
 use Rattle.edge_table.proofs.Ways.{bit_times}
 use Rattle.edge_table.proofs.Tests.{step_is}
-use borrow.Author.Rules.{rules}
 use Rattle.edge_table.proofs.step_up.Goals as goal
 
 pub overflow_mul-result : goal.overflow_mul-result

@@ -1,6 +1,5 @@
 use Rattle.edge_table.proofs.Tests.{sure_none, sure_unplaced, sure_quick, sure_right, sure_wrong}
 use native.Mathlib.Omega.{arith}
-use borrow.Author.Rules.{rules}
 use Rattle.edge_table.proofs.sure_at.Goals as goal
 
 pub returns-then-p-eq1 : goal.returns-then-p-eq1

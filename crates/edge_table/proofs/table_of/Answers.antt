@@ -1,5 +1,4 @@
 use Rattle.edge_table.proofs.Ways.{table_regular, table_irregular}
-use borrow.Author.Rules.{rules}
 use Rattle.edge_table.proofs.table_of.Goals as goal
 
 pub returns-in-Regular : goal.returns-in-Regular

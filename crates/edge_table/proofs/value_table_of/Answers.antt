@@ -1,5 +1,4 @@
 use Rattle.edge_table.proofs.Ways.{table_histogram}
-use borrow.Author.Rules.{rules}
 use Rattle.edge_table.proofs.value_table_of.Goals as goal
 
 pub returns-in-ComponentSumHistogram : goal.returns-in-ComponentSumHistogram

@@ -1,5 +1,4 @@
 use Rattle.edge_validation.proofs.Validation.{ends_first, ends_last}
-use borrow.Author.Rules.{rules}
 use Rattle.edge_validation.proofs.has_finite_ends.Goals as goal
 
 pub returns-then-is_finite : goal.returns-then-is_finite

@@ -1,4 +1,4 @@
-use Rattle.std.proofs.Common.{sym, arith, rules}
+use Rattle.std.proofs.Common.{sym, arith}
 use Rattle.floats.proofs.Floor.{whole_exact, floor_is}
 use Rattle.floats.proofs.as_usize.Goals as goal
 

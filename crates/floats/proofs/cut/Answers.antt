@@ -1,6 +1,5 @@
 use lib.Ieee.{of_bits, neg}
 use Rattle.floats.proofs.Laws.{to_unsigned_low, to_unsigned_high}
-use Rattle.std.proofs.Common.{rules}
 use denote.Floats.{passes}
 use Rattle.floats.proofs.cut.Goals as goal
 

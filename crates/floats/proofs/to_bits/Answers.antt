@@ -1,5 +1,5 @@
 use Rattle.floats.proofs.Patterns.{bits_nan}
-use Rattle.std.proofs.Common.{sym, ◌∙◌, rules}
+use Rattle.std.proofs.Common.{sym, ◌∙◌}
 use Rattle.floats.proofs.to_bits.Goals as goal
 
 pub returns-then-is_nan : goal.returns-then-is_nan

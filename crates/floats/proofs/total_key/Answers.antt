@@ -1,5 +1,4 @@
 use Rattle.floats.proofs.Keys.{keys}
-use Rattle.std.proofs.Common.{rules}
 use Rattle.floats.proofs.total_key.Goals as goal
 
 pub returns-then-is_nan : goal.returns-then-is_nan

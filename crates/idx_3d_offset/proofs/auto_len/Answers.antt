@@ -1,4 +1,3 @@
-use borrow.Author.Rules.{rules}
 use Rattle.idx_3d_offset.proofs.Sequence.{axes_fit, auto_none}
 use Rattle.idx_3d_offset.proofs.Signed.{num, cast_fits, cast_is}
 use Rattle.idx_3d_offset.proofs.auto_len.Goals as goal

@@ -1,4 +1,3 @@
-use borrow.Author.Rules.{rules}
 use Rattle.idx_3d_offset.specs.Offsets.{walkable}
 use Rattle.idx_3d_offset.proofs.axes_fit.Goals as goal
 

@@ -1,4 +1,3 @@
-use borrow.Author.Rules.{rules}
 use native.Mathlib.Omega.{arith}
 use Rattle.idx_3d_offset.proofs.Signed.{num, natural, literal, sum_fits, sum, shifted_fits, less}
 use Rattle.idx_3d_offset.proofs.axis_len.Goals as goal

@@ -1,4 +1,3 @@
-use borrow.Author.Rules.{rules}
 use native.Mathlib.Omega.{arith}
 use Rattle.idx_3d_offset.proofs.Signed.{num, held, natural, literal, difference_fits, difference, less}
 use Rattle.idx_3d_offset.proofs.axis_offset.Goals as goal

@@ -1,4 +1,3 @@
-use borrow.Author.Rules.{rules}
 use Rattle.idx_3d_offset.proofs.Ranges.{count_is}
 use Rattle.idx_3d_offset.proofs.count.Goals as goal
 

@@ -1,4 +1,3 @@
-use borrow.Author.Rules.{rules}
 use Rattle.idx_3d_offset.proofs.Sequence.{axes_fit, cross_none_a, cross_none_b}
 use Rattle.idx_3d_offset.proofs.Signed.{num, cast_fits, cast_is}
 use Rattle.idx_3d_offset.proofs.cross_len.Goals as goal

@@ -1,5 +1,4 @@
 use Prim.Native.Nat.{◌≤◌}
-use borrow.Author.Rules.{rules}
 use lib.IntN.{nat_abs}
 use mathlib.Core.Path.{ap}
 use native.Mathlib.Omega.{arith}

@@ -1,4 +1,3 @@
-use borrow.Author.Rules.{rules}
 use native.Mathlib.Omega.{arith}
 use Rattle.idx_3d_offset.proofs.Sequence.{auto_counts}
 use Rattle.idx_3d_offset.proofs.Signed.{num, held, literal, quotient_fits, quotient}

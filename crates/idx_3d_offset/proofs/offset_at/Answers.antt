@@ -1,5 +1,4 @@
-use Prim.Native.Nat.{ℕ, ◌-◌}
-use borrow.Author.Rules.{rules}
+use Prim.Native.Nat.{◌-◌}
 use lib.IntN.{nat_abs, sub_ℕ}
 use mathlib.Core.Path.{◌∙◌, ap}
 use mir.Facts.{to_z-of_z}

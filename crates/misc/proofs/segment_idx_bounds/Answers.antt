@@ -1,6 +1,5 @@
 use Rattle.misc.proofs.Segments.{bounds_are}
 use borrow.Author.Tests.{lt-ltb, le-ltb}
-use borrow.Author.Rules.{rules}
 use Rattle.misc.proofs.segment_idx_bounds.Goals as goal
 
 pub returns-then-seg_index-n_segments-clause-number : goal.returns-then-seg_index-n_segments-clause-number

@@ -1,5 +1,4 @@
 use Rattle.misc.proofs.Segments.{starts}
-use borrow.Author.Rules.{rules}
 use Rattle.misc.proofs.segment_start.Goals as goal
 
 pub overflow_mul-quotients : goal.overflow_mul-quotients

@@ -1,5 +1,4 @@
 use Rattle.reducer.proofs.Ways.{place_within, hist_kept, hist_past, hist_none}
-use borrow.Author.Rules.{rules}
 use Rattle.reducer.proofs.add_histogram.Goals as goal
 
 pub add_number-requires : goal.add_number-requires

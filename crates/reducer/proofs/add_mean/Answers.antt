@@ -1,5 +1,4 @@
 use Rattle.reducer.proofs.Ways.{both_bumped}
-use borrow.Author.Rules.{rules}
 use Rattle.reducer.proofs.add_mean.Goals as goal
 
 pub returns : goal.returns

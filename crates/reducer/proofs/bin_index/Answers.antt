@@ -1,5 +1,4 @@
 use Rattle.reducer.proofs.Ways.{find_regular, find_irregular}
-use borrow.Author.Rules.{rules}
 use Rattle.reducer.proofs.bin_index.Goals as goal
 
 pub returns-in-Regular : goal.returns-in-Regular

@@ -1,5 +1,4 @@
 use Rattle.reducer.proofs.Ways.{bin_kept, bin_past, bin_none}
-use borrow.Author.Rules.{rules}
 use Rattle.reducer.proofs.bin_of.Goals as goal
 
 pub returns-then-i-n : goal.returns-then-i-n

@@ -1,5 +1,4 @@
 use Rattle.reducer.proofs.Ways.{consumed_is}
-use borrow.Author.Rules.{rules}
 use Rattle.reducer.proofs.consume.Goals as goal
 
 pub returns : goal.returns

@@ -1,5 +1,4 @@
 use Rattle.reducer.proofs.Ways.{consumed_none, consumed_state, within, within_comp0, within_sum, consumed_comp0, consumed_sum, consumed_histogram}
-use borrow.Author.Rules.{rules}
 use Rattle.reducer.proofs.consume_at.Goals as goal
 
 pub add_mean-requires : goal.add_mean-requires

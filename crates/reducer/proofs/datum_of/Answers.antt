@@ -1,5 +1,4 @@
 use Rattle.reducer.proofs.Ways.{datum_multiply, datum_sub}
-use borrow.Author.Rules.{rules}
 use Rattle.reducer.proofs.datum_of.Goals as goal
 
 pub returns-in-ElementwiseMultiply : goal.returns-in-ElementwiseMultiply

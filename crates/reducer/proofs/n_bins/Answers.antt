@@ -1,5 +1,4 @@
 use Rattle.reducer.proofs.Ways.{bins_regular, bins_none, bins_irregular}
-use borrow.Author.Rules.{rules}
 use Rattle.reducer.proofs.n_bins.Goals as goal
 
 pub returns-then-edges_len-eq0 : goal.returns-then-edges_len-eq0

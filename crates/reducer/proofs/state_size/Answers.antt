@@ -1,5 +1,4 @@
 use Rattle.reducer.proofs.Ways.{size_histogram}
-use borrow.Author.Rules.{rules}
 use Rattle.reducer.proofs.state_size.Goals as goal
 
 pub returns-in-ComponentSumHistogram : goal.returns-in-ComponentSumHistogram

@@ -1,5 +1,4 @@
 use Rattle.reducer.proofs.Ways.{value_histogram}
-use borrow.Author.Rules.{rules}
 use Rattle.reducer.proofs.value_bin.Goals as goal
 
 pub returns-in-ComponentSumHistogram : goal.returns-in-ComponentSumHistogram

@@ -1,9 +1,6 @@
-use borrow.Author.Rules.{rules}
-use mathlib.Core.Path.{◌≡◌, refl}
-use Prim.Native.Nat.{◌≤◌, ◌-◌}
+use mathlib.Core.Path.{refl}
 use native.Mathlib.Omega.{arith}
-use lib.ListN.{length, length-set}
-use Rattle.definitions.specs.State.{merge_packs}
+use lib.ListN.{length-set}
 use Rattle.state.proofs.Packs.{merge_turn, merge_done}
 use Rattle.state.proofs.add_first.Goals as goal
 

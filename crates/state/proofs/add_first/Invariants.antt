@@ -1,10 +1,7 @@
-use borrow.Author.Rules.{rules}
-use mathlib.Core.Path.{◌≡◌, refl}
+use mathlib.Core.Path.{◌≡◌}
 use Prim.Native.Nat.{◌≤◌, ◌-◌}
-use native.Mathlib.Omega.{arith}
-use lib.ListN.{length, length-set}
+use lib.ListN.{length}
 use Rattle.definitions.specs.State.{merge_packs}
-use Rattle.state.proofs.Packs.{merge_turn, merge_done}
 use Rattle.state.proofs.add_first.Given as goal
 
 abbrev pub invariant-loop-i : goal.invariant-loop-i

@@ -1,9 +1,7 @@
-use borrow.Author.Rules.{rules}
-use mathlib.Core.Path.{◌≡◌, refl}
-use Prim.Native.Nat.{◌≤◌, ◌-◌}
+use mathlib.Core.Path.{refl}
 use native.Mathlib.Omega.{arith}
-use lib.ListN.{length, length-set}
-use Rattle.state.proofs.Packs.{added_from, from_turn, from_done}
+use lib.ListN.{length-set}
+use Rattle.state.proofs.Packs.{from_turn, from_done}
 use Rattle.state.proofs.add_from.Goals as goal
 
 pub loop-i-init : goal.loop-i-init

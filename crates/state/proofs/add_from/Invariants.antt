@@ -1,9 +1,7 @@
-use borrow.Author.Rules.{rules}
-use mathlib.Core.Path.{◌≡◌, refl}
+use mathlib.Core.Path.{◌≡◌}
 use Prim.Native.Nat.{◌≤◌, ◌-◌}
-use native.Mathlib.Omega.{arith}
-use lib.ListN.{length, length-set}
-use Rattle.state.proofs.Packs.{added_from, from_turn, from_done}
+use lib.ListN.{length}
+use Rattle.state.proofs.Packs.{added_from}
 use Rattle.state.proofs.add_from.Given as goal
 
 abbrev pub invariant-loop-i : goal.invariant-loop-i

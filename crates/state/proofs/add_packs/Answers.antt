@@ -1,9 +1,6 @@
-use mathlib.Core.Path.{◌≡◌, refl}
-use Prim.Native.Nat.{◌≤◌, ◌-◌}
+use mathlib.Core.Path.{refl}
 use native.Mathlib.Omega.{arith}
 use borrow.Author.Rules.{rules}
-use lib.ListN.{length}
-use Rattle.definitions.specs.State.{consolidate_packs}
 use Rattle.state.proofs.Packs.{packs_one, packs_turn, packs_done, pack_fits_law, pack_past, pack_within}
 use Rattle.state.proofs.add_packs.Goals as goal
 

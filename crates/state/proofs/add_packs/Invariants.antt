@@ -1,10 +1,7 @@
-use mathlib.Core.Path.{◌≡◌, refl}
+use mathlib.Core.Path.{◌≡◌}
 use Prim.Native.Nat.{◌≤◌, ◌-◌}
-use native.Mathlib.Omega.{arith}
-use borrow.Author.Rules.{rules}
 use lib.ListN.{length}
 use Rattle.definitions.specs.State.{consolidate_packs}
-use Rattle.state.proofs.Packs.{packs_one, packs_turn, packs_done, pack_fits_law, pack_past, pack_within}
 use Rattle.state.proofs.add_packs.Given as goal
 
 abbrev pub invariant-loop-i : goal.invariant-loop-i

@@ -1,6 +1,5 @@
 use Rattle.state.proofs.Refusals.{merge_fits, merge_first, merge_second}
 use Rattle.laws.proofs.Refusals.{answers}
-use borrow.Author.Rules.{rules}
 use Rattle.state.proofs.merge_full_statepacks.Goals as goal
 
 pub returns-then-number-ne0 : goal.returns-then-number-ne0

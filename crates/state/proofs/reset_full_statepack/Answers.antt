@@ -1,6 +1,5 @@
 use Rattle.state.proofs.Refusals.{reset_fits, reset_within}
 use Rattle.laws.proofs.Refusals.{answers}
-use borrow.Author.Rules.{rules}
 use Rattle.state.proofs.reset_full_statepack.Goals as goal
 
 pub returns-then-number-ne0 : goal.returns-then-number-ne0

@@ -1,5 +1,4 @@
 use Rattle.state.proofs.Results.{mean_second, numbers}
-use borrow.Author.Rules.{rules}
 use Rattle.state.proofs.result_number.Goals as goal
 
 pub state_number-requires : goal.state_number-requires

@@ -1,6 +1,5 @@
 use Rattle.state.proofs.Results.{place_part, place_bytes}
 use Rattle.state.proofs.View.{part_here, part_never}
-use borrow.Author.Rules.{rules}
 use Rattle.state.proofs.state_number.Goals as goal
 
 pub offset_bounds-pack-s : goal.offset_bounds-pack-s

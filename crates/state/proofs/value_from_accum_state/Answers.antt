@@ -1,6 +1,5 @@
 use Rattle.state.proofs.Refusals.{result_own, result_state, result_within, result_limit, result_room}
 use Rattle.laws.proofs.Refusals.{answers}
-use borrow.Author.Rules.{rules}
 use Rattle.state.proofs.value_from_accum_state.Goals as goal
 
 pub returns-then-number-ne0 : goal.returns-then-number-ne0

@@ -1,12 +1,7 @@
-use mathlib.Core.Path.{◌≡◌, refl}
-use Prim.Native.Nat.{◌≤◌, ◌-◌}
+use mathlib.Core.Path.{refl}
 use native.Mathlib.Omega.{arith}
-use lib.ListN.{length, length-set}
-use Rattle.definitions.specs.Lists.{overwritten}
-use Rattle.definitions.specs.State.{result_number}
-use Rattle.state.specs.Readings.{state_kind_of}
+use lib.ListN.{length-set}
 use Rattle.state.proofs.Results.{result_turn, result_done}
-use borrow.Author.Rules.{rules}
 use Rattle.state.proofs.write_result.Goals as goal
 
 pub loop-e-init : goal.loop-e-init

@@ -1,12 +1,9 @@
-use mathlib.Core.Path.{◌≡◌, refl}
+use mathlib.Core.Path.{◌≡◌}
 use Prim.Native.Nat.{◌≤◌, ◌-◌}
-use native.Mathlib.Omega.{arith}
-use lib.ListN.{length, length-set}
+use lib.ListN.{length}
 use Rattle.definitions.specs.Lists.{overwritten}
 use Rattle.definitions.specs.State.{result_number}
 use Rattle.state.specs.Readings.{state_kind_of}
-use Rattle.state.proofs.Results.{result_turn, result_done}
-use borrow.Author.Rules.{rules}
 use Rattle.state.proofs.write_result.Given as goal
 
 abbrev pub invariant-loop-e : goal.invariant-loop-e

@@ -1,10 +1,7 @@
-use borrow.Author.Rules.{rules}
-use mathlib.Core.Path.{◌≡◌, refl}
-use Prim.Native.Nat.{◌≤◌, ◌-◌}
+use mathlib.Core.Path.{refl}
 use native.Mathlib.Omega.{arith}
-use lib.ListN.{length, length-set}
+use lib.ListN.{length-set}
 use lib.Ieee.{of_bits}
-use Rattle.definitions.specs.State.{reset_pack}
 use Rattle.state.proofs.Packs.{reset_turn, reset_done}
 use Rattle.state.proofs.zero_first.Goals as goal
 

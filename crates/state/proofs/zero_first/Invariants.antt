@@ -1,11 +1,7 @@
-use borrow.Author.Rules.{rules}
-use mathlib.Core.Path.{◌≡◌, refl}
+use mathlib.Core.Path.{◌≡◌}
 use Prim.Native.Nat.{◌≤◌, ◌-◌}
-use native.Mathlib.Omega.{arith}
-use lib.ListN.{length, length-set}
-use lib.Ieee.{of_bits}
+use lib.ListN.{length}
 use Rattle.definitions.specs.State.{reset_pack}
-use Rattle.state.proofs.Packs.{reset_turn, reset_done}
 use Rattle.state.proofs.zero_first.Given as goal
 
 abbrev pub invariant-loop-i : goal.invariant-loop-i

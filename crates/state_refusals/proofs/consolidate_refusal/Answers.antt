@@ -1,5 +1,4 @@
 use Rattle.state_refusals.proofs.Refusals.{shape_with}
-use borrow.Author.Rules.{rules}
 use Rattle.state_refusals.proofs.consolidate_refusal.Goals as goal
 
 pub returns : goal.returns

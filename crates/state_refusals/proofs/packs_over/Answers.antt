@@ -1,5 +1,4 @@
 use Rattle.state_refusals.proofs.Refusals.{packs_none, packs_some}
-use borrow.Author.Rules.{rules}
 use Rattle.state_refusals.proofs.packs_over.Goals as goal
 
 pub returns-then-n_packs-eq0 : goal.returns-then-n_packs-eq0

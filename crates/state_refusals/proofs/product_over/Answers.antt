@@ -1,5 +1,4 @@
 use Rattle.state_refusals.proofs.Refusals.{over_none, over_by_division}
-use borrow.Author.Rules.{rules}
 use Rattle.state_refusals.proofs.product_over.Goals as goal
 
 pub returns-then-b-eq0 : goal.returns-then-b-eq0

@@ -1,5 +1,4 @@
 use Rattle.state_refusals.proofs.Refusals.{short_pack, short_value}
-use borrow.Author.Rules.{rules}
 use Rattle.state_refusals.proofs.result_unfit.Goals as goal
 
 pub returns-then-product_over : goal.returns-then-product_over

@@ -1,5 +1,4 @@
 use Rattle.bins.proofs.Regular.{index_outcomes}
-use borrow.Author.Rules.{rules}
 use Rattle.bins.proofs.RegularBinEdges.bin_index.Goals as goal
 
 pub returns-then-value-self : goal.returns-then-value-self
