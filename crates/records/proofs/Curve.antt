@@ -1,6 +1,5 @@
 -- From the bytes of the two files to the run of the entry.
-use mathlib.Core.Path.{◌≡◌, refl, sym, ap, ◌∙◌}
-use mathlib.Core.Option.{some}
+use mathlib.Core.Path.{◌≡◌, sym, ap, ◌∙◌}
 use mathlib.Core.Bool.{false}
 use mathlib.Core.List.{List}
 use Prim.Native.Nat.{ℕ, ◌*◌, ◌/◌, ◌≤◌}
@@ -10,19 +9,17 @@ use lib.Ieee.{Float}
 use Rattle.definitions.specs.Floats.{zero_f}
 use Rattle.definitions.specs.Bins.{bins, irregular}
 use Rattle.definitions.specs.Rules.{step}
-use Rattle.definitions.specs.Records.{column, record_points, record_edges, curve_bins, entry_run, curve_pack}
+use Rattle.definitions.specs.Records.{column, curve_bins, entry_run, curve_pack}
 use Rattle.reducer.specs.declared.PairOperation.TheVariants.{ElementwiseMultiply}
 use Rattle.reducer.specs.declared.Edges.TheVariants.{Irregular}
 use Rattle.reducer.specs.declared.Kind.TheVariants.{ComponentSumMean}
-use Rattle.parallel_serial.specs.declared.Shape.{Shape}
 use Rattle.unstructured_points.specs.declared.Stride.TheVariants.{Given}
-use Rattle.unstructured_points.specs.declared.PointSet.{PointSet}
 use Rattle.unstructured_points.specs.Readings.{points_of}
 use Rattle.parallel_serial.specs.Drive.{sets_run}
 use Rattle.unstructured.specs.Readings.{auto_run}
 use Rattle.record_bytes.specs.Stores.{stored}
 use Rattle.record_bytes.specs.Columns.{numbers, three_numbers, edges_read, three_read, weights_read}
-use Rattle.records.specs.Answers.{curve_run, listed_curve, record_curve}
+use Rattle.records.specs.Answers.{listed_curve, record_curve}
 use Rattle.record_bytes.proofs.Stores.{same_stored, stored_take}
 use Rattle.record_bytes.proofs.Columns.{numbers_length, three_length}
 use Rattle.record_bytes.proofs.Files.{three_read_law, weights_read_law}

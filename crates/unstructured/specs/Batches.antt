@@ -1,8 +1,8 @@
 -- What the rows in batches promise and ask: lookups by tables, the places of a batch that are not outside the ends.
-use Rattle.std.specs.Prelude.{◌≡◌, List, [], ◌∷◌, ◌++◌, map, Bool, true, false, ℕ, zero, suc, ◌+◌, ◌-◌, ◌*◌, ◌<◌, ◌≤◌, length, get_or, Float}
+use Rattle.std.specs.Prelude.{◌≡◌, List, [], ◌∷◌, ◌++◌, map, true, false, ℕ, zero, suc, ◌<◌, ◌≤◌, length, get_or, Float}
 use Rattle.std.proofs.Math.Option.{some}
 use Rattle.std.specs.Float.{binary64, nan}
-use Rattle.std.specs.Float.Ieee.{lt, le, mul, of_bits}
+use Rattle.std.specs.Float.Ieee.{mul, of_bits}
 use Rattle.definitions.specs.Lists.{at}
 use Rattle.definitions.specs.Bins.{below}
 use Rattle.definitions.specs.Points.{Reading}

@@ -1,5 +1,5 @@
 -- What the private functions promise: pairs and the loops over them, as updates of the pack.
-use Rattle.std.specs.Prelude.{◌≡◌, List, map, Bool, true, false, ℕ, zero, suc, ◌+◌, ◌-◌, ◌*◌, ◌≤◌, ◌<◌, length, Float}
+use Rattle.std.specs.Prelude.{List, map, Bool, true, false, ℕ, ◌+◌, ◌*◌, ◌≤◌, ◌<◌, length, Float}
 use Rattle.std.proofs.Math.Option.{some}
 use Rattle.definitions.specs.Lists.{range, upto, later_pairs, all_pairs}
 use Rattle.definitions.specs.Points as Points

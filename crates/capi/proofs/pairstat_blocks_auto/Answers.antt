@@ -1,7 +1,6 @@
 use Rattle.capi_words.proofs.Words.{said}
 use Rattle.capi.specs.Entries.{block_from}
 use Rattle.capi.proofs.Runs.{same_runs, same_block, one_block_law, run_number_law, run_pack}
-use borrow.Author.Rules.{rules}
 use Rattle.capi.proofs.pairstat_blocks_auto.Goals as goal
 
 pub returns-clause-value : goal.returns-clause-value

@@ -2,7 +2,6 @@ use Rattle.capi_words.proofs.Words.{said}
 use mathlib.Core.Path.{ap}
 use Rattle.definitions.specs.Run.{one_points}
 use Rattle.capi.proofs.Runs.{same_runs, same_set, run_number_law, run_pack}
-use borrow.Author.Rules.{rules}
 use Rattle.capi.proofs.pairstat_points_auto.Goals as goal
 
 pub returns-clause-value : goal.returns-clause-value

@@ -1,7 +1,6 @@
 use Rattle.capi_words.proofs.Words.{said}
 use Rattle.definitions.specs.Run.{two_points}
 use Rattle.capi.proofs.Runs.{same_runs, same_set, run_number_law, run_pack}
-use borrow.Author.Rules.{rules}
 use Rattle.capi.proofs.pairstat_points_cross.Goals as goal
 
 pub returns-clause-value : goal.returns-clause-value

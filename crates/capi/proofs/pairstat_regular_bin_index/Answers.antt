@@ -1,5 +1,4 @@
 use Rattle.capi_words.proofs.Words.{lookup_written}
-use borrow.Author.Rules.{rules}
 use Rattle.capi.proofs.pairstat_regular_bin_index.Goals as goal
 
 pub returns : goal.returns

@@ -1,5 +1,4 @@
 use Rattle.capi_words.proofs.Words.{said}
-use borrow.Author.Rules.{rules}
 use Rattle.definitions.proofs.Clauses.{both}
 use Rattle.capi.proofs.pairstat_reset_full_statepack.Goals as goal
 

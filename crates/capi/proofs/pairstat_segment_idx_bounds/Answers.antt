@@ -1,5 +1,4 @@
 use Rattle.capi_words.proofs.Words.{segment_written}
-use borrow.Author.Rules.{rules}
 use Rattle.capi.proofs.pairstat_segment_idx_bounds.Goals as goal
 
 pub returns : goal.returns

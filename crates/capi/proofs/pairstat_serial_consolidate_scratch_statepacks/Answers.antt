@@ -1,5 +1,4 @@
 use Rattle.capi_words.proofs.Words.{said}
-use borrow.Author.Rules.{rules}
 use Rattle.definitions.proofs.Clauses.{both}
 use Rattle.capi.proofs.pairstat_serial_consolidate_scratch_statepacks.Goals as goal
 

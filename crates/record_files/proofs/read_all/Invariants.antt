@@ -1,8 +1,6 @@
-use mathlib.Core.Path.{◌≡◌, refl}
+use mathlib.Core.Path.{◌≡◌}
 use Prim.Native.Nat.{◌-◌, ◌≤◌}
-use native.Mathlib.Omega.{arith}
-use lib.ListN.{length, length-take}
-use borrow.Author.Rules.{rules}
+use lib.ListN.{length}
 use Rattle.record_files.proofs.read_all.Given as goal
 
 abbrev pub invariant-loop-n : goal.invariant-loop-n

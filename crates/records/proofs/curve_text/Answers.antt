@@ -1,7 +1,6 @@
 use native.Mathlib.Omega.{arith}
 use lib.ListN.{length-take}
 use Rattle.records.proofs.Outcomes.{front_fitted}
-use borrow.Author.Rules.{rules}
 use Rattle.records.proofs.curve_text.Goals as goal
 
 pub slice_bounds-put_fitting-end : goal.slice_bounds-put_fitting-end

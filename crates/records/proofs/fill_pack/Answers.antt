@@ -1,7 +1,6 @@
 use native.Mathlib.Omega.{arith}
 use lib.ListN.{length-take}
 use Rattle.records.proofs.Curve.{files_curve}
-use borrow.Author.Rules.{rules}
 use Rattle.records.proofs.fill_pack.Goals as goal
 
 pub slice_bounds-run_records-end : goal.slice_bounds-run_records-end

@@ -1,6 +1,5 @@
 use native.Mathlib.Omega.{arith}
 use Rattle.record_refusals.proofs.Rules.{bins_none, bins_are}
-use borrow.Author.Rules.{rules}
 use Rattle.records.proofs.n_bins.Goals as goal
 
 pub returns-then-n-eq0 : goal.returns-then-n-eq0

@@ -1,5 +1,4 @@
 use Rattle.records.proofs.Outcomes.{pack_holds, pack_part, pack_fresh, answer_first, keeps_first, answer_24, keeps_24, answer_0, makes_0}
-use borrow.Author.Rules.{rules}
 use Rattle.records.proofs.pairstat_curve.Goals as goal
 
 pub returns-then-number-ne0-clause-value : goal.returns-then-number-ne0-clause-value

@@ -1,7 +1,6 @@
 use native.Mathlib.Omega.{arith}
 use Rattle.record_bytes.proofs.Stores.{same_count}
 use Rattle.records.proofs.Outcomes.{same_fitted, no_points, no_edges, both_files}
-use borrow.Author.Rules.{rules}
 use Rattle.records.proofs.program_text.Goals as goal
 
 pub returns-then-edges_read-clause-value : goal.returns-then-edges_read-clause-value

@@ -1,5 +1,4 @@
 use Rattle.records.proofs.Curve.{listed_run}
-use borrow.Author.Rules.{rules}
 use Rattle.records.proofs.run.Goals as goal
 
 pub returns : goal.returns

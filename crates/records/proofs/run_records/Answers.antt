@@ -1,7 +1,6 @@
 use native.Mathlib.Omega.{arith}
 use lib.ListN.{length-take}
 use Rattle.records.proofs.Curve.{records_curve}
-use borrow.Author.Rules.{rules}
 use Rattle.records.proofs.run_records.Goals as goal
 
 pub slice_bounds-run-end : goal.slice_bounds-run-end

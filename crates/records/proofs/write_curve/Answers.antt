@@ -3,7 +3,6 @@ use native.Mathlib.Omega.{arith}
 use Rattle.record_bytes.proofs.Stores.{same_stored}
 use Rattle.record_bytes.proofs.Files.{records_fit}
 use Rattle.records.proofs.Outcomes.{curve_written}
-use borrow.Author.Rules.{rules}
 use Rattle.records.proofs.write_curve.Goals as goal
 
 pub returns : goal.returns

@@ -1,7 +1,6 @@
 use native.Mathlib.Omega.{arith}
 use Rattle.record_bytes.proofs.Stores.{same_count, same_stored}
 use Rattle.records.proofs.Outcomes.{pack_holds, pack_part, pack_fresh, text_refused, text_lines}
-use borrow.Author.Rules.{rules}
 use Rattle.records.proofs.write_text.Goals as goal
 
 pub returns-then-number-ne0-clause-value : goal.returns-then-number-ne0-clause-value

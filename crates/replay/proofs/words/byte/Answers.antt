@@ -1,4 +1,4 @@
-use Rattle.std.proofs.Common.{arith, rules}
+use Rattle.std.proofs.Common.{arith}
 use Rattle.replay.proofs.words.byte.Goals as goal
 
 pub returns-then-k-b : goal.returns-then-k-b

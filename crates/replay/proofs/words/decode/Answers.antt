@@ -1,4 +1,4 @@
-use Rattle.std.proofs.Common.{◌≡◌, ◌-◌, ◌≤◌, length, refl, arith, length-set, rules}
+use Rattle.std.proofs.Common.{refl, arith, length-set, rules}
 use Rattle.replay.proofs.words.decode.Goals as goal
 
 pub loop-i-init : goal.loop-i-init
