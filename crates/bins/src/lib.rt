@@ -109,6 +109,7 @@ pub fn outside(edges: &[f64], value: f64) -> bool
 }
 
 // The last edge not after the value.
+#[tactic(auto, using(crate::proofs::Irregular::scan_found))]
 fn last_by_scan(edges: &[f64], value: f64) -> BinIndex
     ensures { index_of result ≡ last_edge edges.now value (length edges.now) }
 {

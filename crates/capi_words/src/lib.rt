@@ -15,6 +15,7 @@ use unstructured_points::Stride;
 
 // ---- what the numbers stand for
 
+#[tactic(auto, unfolding(crate::specs::Words::edges_from))]
 pub fn edges_from(irregular: u64, min: f64, max: f64, n_bins: usize) -> Edges
     ensures { result ≡ edges_from irregular min max n_bins }
 {
@@ -24,6 +25,7 @@ pub fn edges_from(irregular: u64, min: f64, max: f64, n_bins: usize) -> Edges
     Edges::Irregular
 }
 
+#[tactic(auto, unfolding(crate::specs::Words::kind_from))]
 pub fn kind_from(form: u64, edges: Edges) -> Kind
     ensures { result ≡ kind_from form edges }
 {
@@ -36,6 +38,7 @@ pub fn kind_from(form: u64, edges: Edges) -> Kind
     Kind::ComponentSumHistogram(edges)
 }
 
+#[tactic(auto, unfolding(crate::specs::Words::op_from))]
 pub fn op_from(subtract: u64) -> PairOperation
     ensures { result ≡ op_from subtract }
 {
@@ -45,6 +48,7 @@ pub fn op_from(subtract: u64) -> PairOperation
     PairOperation::ElementwiseSub
 }
 
+#[tactic(auto, unfolding(crate::specs::Words::stride_from))]
 pub fn stride_from(stated: u64, stride: usize) -> Stride
     ensures { result ≡ stride_from stated stride }
 {
@@ -54,6 +58,7 @@ pub fn stride_from(stated: u64, stride: usize) -> Stride
     Stride::Given(stride)
 }
 
+#[tactic(auto, unfolding(crate::specs::Words::state_kind_from))]
 pub fn state_kind_from(histogram: u64, n_bins: usize) -> StateKind
     ensures { result ≡ state_kind_from histogram n_bins }
 {
