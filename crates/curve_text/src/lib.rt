@@ -144,6 +144,7 @@ pub fn curve_lines(out: &mut [u8], pack: &[f64], n: usize) -> usize
 }
 
 // The line of a refusal at the front, unless its number has more than three digits or out has no room; answers its length.
+#[tactic(auto, using(record_bytes::proofs::Stores::none_stored), unfolding(crate::specs::Text::refused_fitting))]
 pub fn refused_line(out: &mut [u8], n: usize) -> usize
     ensures value { (result ≡ length (refused_fitting n (length out.old))) × (result ≤ 12) }
     ensures out_after { out.new ≡ stored 0 (refused_fitting n (length out.old)) out.old }
@@ -158,6 +159,7 @@ pub fn refused_line(out: &mut [u8], n: usize) -> usize
 }
 
 // The text at the front of out, if it fits.
+#[tactic(auto, using(crate::proofs::Fitting::fits, crate::proofs::Fitting::too_short))]
 pub fn put_fitting(text: &[u8], out: &mut [u8])
     ensures { out.new ≡ fitted text.now out.old }
 {

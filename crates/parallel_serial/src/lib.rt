@@ -134,6 +134,7 @@ fn add_next(scratch: &[f64], pack: &mut [f64], i: usize) -> usize
 }
 
 // Scratch is added to the front of the caller's pack, caller's number first; nothing where it is longer.
+#[tactic(auto, using(crate::proofs::Scratch::added_none))]
 pub fn add_scratch(scratch: &[f64], pack: &mut [f64])
     ensures { pack.new ≡ added_scratch pack.old scratch.now }
 {

@@ -4,7 +4,7 @@ use native.Mathlib.Omega.{arith}
 use lib.ListN.{length}
 use borrow.Author.Rules.{rules}
 use Rattle.definitions.specs.State.{merge_packs}
-use Rattle.parallel_serial.proofs.Scratch.{sums_merged, added_done, added_none}
+use Rattle.parallel_serial.proofs.Scratch.{sums_merged, added_done}
 use Rattle.parallel_serial.proofs.add_scratch.Goals as goal
 
 pub loop-i-init : goal.loop-i-init
@@ -15,6 +15,3 @@ loop-i-preserved c = (search rules, search rules, search sums_merged)
 
 pub returns-after-loop-i : goal.returns-after-loop-i
 returns-after-loop-i c = search added_done
-
-pub returns-else-scratch-pack : goal.returns-else-scratch-pack
-returns-else-scratch-pack c = search added_none
