@@ -56,9 +56,9 @@ fn numbers_over(b: Block) -> bool
 
 // The last cell's place and one more.
 fn required_length(b: Block) -> usize
-    requires fact_1 { Limited b }
-    requires fact_2 { 1 ≤ b.nz }
-    requires fact_3 { 1 ≤ b.ny }
+    requires b_limited { Limited b }
+    requires z_axis { 1 ≤ b.nz }
+    requires y_axis { 1 ≤ b.ny }
     ensures { result ≡ required_length (block_of b [] [] [] []) }
 {
     (b.nz - 1) * b.sz + (b.ny - 1) * b.sy + b.nx
@@ -231,8 +231,8 @@ fn sets_refusal(
     b: Block,
     width: CellWidth,
 ) -> u32
-    requires fact_1 { Limited a }
-    requires fact_2 { (auto ≡ false → Limited b) }
+    requires a_limited { Limited a }
+    requires b_limited { (auto ≡ false → Limited b) }
     ensures { result ≡ refusal (set_rules (sets_for auto (width_of width) (block_of a a0.now a1.now a2.now aw.now)
         (block_of b b0.now b1.now b2.now bw.now))) }
 {

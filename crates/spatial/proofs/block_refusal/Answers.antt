@@ -27,14 +27,14 @@ overflow_mul-b-2 c = x_fits _ c.requires
 pub returns-then-b-2 : goal.returns-then-b-2
 returns-then-b-2 c = search block_17
 
-pub required_length-requires-clause-fact_1 : goal.required_length-requires-clause-fact_1
-required_length-requires-clause-fact_1 c = c.requires
+pub required_length-requires-clause-b_limited : goal.required_length-requires-clause-b_limited
+required_length-requires-clause-b_limited c = c.requires
 
-pub required_length-requires-clause-fact_2 : goal.required_length-requires-clause-fact_2
-required_length-requires-clause-fact_2 c = omega (arith, c.if-b-eq0.false)
+pub required_length-requires-clause-z_axis : goal.required_length-requires-clause-z_axis
+required_length-requires-clause-z_axis c = omega (arith, c.if-b-eq0.false)
 
-pub required_length-requires-clause-fact_3 : goal.required_length-requires-clause-fact_3
-required_length-requires-clause-fact_3 c = omega (arith, c.if-b-eq0-2.false)
+pub required_length-requires-clause-y_axis : goal.required_length-requires-clause-y_axis
+required_length-requires-clause-y_axis c = omega (arith, c.if-b-eq0-2.false)
 
 pub returns-then-weights-required_length : goal.returns-then-weights-required_length
 returns-then-weights-required_length c = search block_18

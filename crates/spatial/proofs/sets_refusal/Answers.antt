@@ -9,7 +9,7 @@ pub returns-then-auto : goal.returns-then-auto
 returns-then-auto c = search refused_auto
 
 pub block_refusal-second-requires : goal.block_refusal-second-requires
-block_refusal-second-requires c = c.requires.fact_2 c.if-auto.false
+block_refusal-second-requires c = c.requires.b_limited c.if-auto.false
 
 pub returns-then-second-ne0 : goal.returns-then-second-ne0
 returns-then-second-ne0 c = search refused_second
