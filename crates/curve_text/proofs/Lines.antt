@@ -1,8 +1,7 @@
 -- Decimal and hexadecimal digits, lines, and the loops that put them into a slice.
 use mathlib.Core.Path.{◌≡◌, refl, sym, ap, ◌∙◌}
-use mathlib.Core.Bool.{cond}
 use mathlib.Core.List.{List, [], ◌∷◌, ◌++◌, append_assoc}
-use Prim.Native.Nat.{ℕ, zero, suc, ◌+◌, ◌-◌, ◌*◌, ◌/◌, ◌%◌, ◌≤◌, ◌<◌}
+use Prim.Native.Nat.{ℕ, zero, suc, ◌+◌, ◌-◌, ◌/◌, ◌%◌, ◌≤◌, ◌<◌}
 use native.Mathlib.Nat.{le_of_lt}
 use native.Mathlib.Numerals.{towards_suc}
 use native.Mathlib.Omega.{arith}
@@ -10,12 +9,12 @@ use lib.ListN.{length, get_or, take, set, length-append}
 use lib.Seq.{take-suc, take_all, length-take-le}
 use lib.Ieee.{Float, binary64, to_bits}
 use borrow.Author.Tests.{lt-ltb, le-ltb}
-use Rattle.definitions.specs.Lists.{at, upto, flat_map}
+use Rattle.definitions.specs.Lists.{at}
 use Rattle.definitions.specs.Run.{place}
-use Rattle.definitions.specs.Records.{ascii, decimal, hex_digit, hexadecimal, bits_text, curve_line, curve_lines, refused_line}
+use Rattle.definitions.specs.Records.{ascii, decimal, hex_digit, hexadecimal, bits_text, curve_line}
 use Rattle.record_bytes.specs.Stores.{stored}
 use Rattle.curve_text.specs.Text.{decimal_text, decimal_then, hex_text, bits_then, line_text, lines_text, refused_text}
-use Rattle.record_bytes.proofs.Stores.{stored_length, stored_next, stored_last, stored_past, rows_turn, rows_place}
+use Rattle.record_bytes.proofs.Stores.{stored_next, stored_last, stored_past, rows_turn, rows_place}
 
 -- ---- decimal
 one_digit : (n : ℕ) → n < 10 → decimal_text n ≡ (48 + n) ∷ []

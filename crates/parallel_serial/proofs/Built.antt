@@ -1,6 +1,6 @@
 -- What is built of edges and kinds, for each way through the code; of accepted ones it is what the reducer's laws speak of.
 use mathlib.Core.Path.{◌≡◌, refl, sym, ap, ◌∙◌}
-use mathlib.Core.Option.{Option, none, some, some-injective, some-ne-none, none-ne-some}
+use mathlib.Core.Option.{none, some, some-injective, some-ne-none, none-ne-some}
 use mathlib.Core.Bool.{Bool, true, false, cond}
 use mathlib.Core.List.{List, ◌∷◌}
 use Prim.Native.Nat.{ℕ}
@@ -19,7 +19,6 @@ use Rattle.reducer.specs.declared.Kind.{Kind}
 use Rattle.reducer.specs.declared.Kind.TheVariants.{Comp0Mean, ComponentSumMean, ComponentSumHistogram}
 use Rattle.reducer.specs.declared.BuiltEdges.{BuiltEdges}
 use Rattle.reducer.specs.declared.BuiltEdges.TheVariants as built
-use Rattle.reducer.specs.declared.Reducer.{Reducer}
 use Rattle.reducer.specs.declared.Reducer.TheVariants as reducer
 use Rattle.reducer.specs.Readings.{edges_of, kind_of}
 use Rattle.reducer.specs.Consume.{made_edges, made}

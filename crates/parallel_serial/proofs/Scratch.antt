@@ -1,16 +1,15 @@
 -- Scratch: the part of the zeros that is lent, and its addition to the caller's pack.
 use mathlib.Core.Path.{◌≡◌, refl, sym, ap, ◌∙◌}
-use mathlib.Core.Bool.{Bool, true, false, cond}
-use mathlib.Core.List.{List, [], ◌∷◌, ◌++◌, map}
+use mathlib.Core.Bool.{false}
+use mathlib.Core.List.{List, ◌∷◌, ◌++◌, map}
 use Prim.Native.Nat.{ℕ, zero, suc, ◌+◌, ◌-◌, ◌<◌, ◌≤◌}
 use native.Mathlib.Nat.{add-zero, le_refl, not-suc-le-zero, le_of_suc-le-suc}
 use native.Mathlib.Omega.{arith}
-use lib.Dec.{leb}
 use lib.ListN.{length, set, take, drop, replicate, length-replicate}
 use lib.Seq.{length-take-le, take-take, get_or-set_other}
 use lib.Ieee.{Float, nan, binary64, add}
 use borrow.Author.Tests.{le-leb, lt-leb}
-use Rattle.definitions.specs.Lists.{at, range, upto, overwritten}
+use Rattle.definitions.specs.Lists.{at, range}
 use Rattle.definitions.specs.Floats.{zero_f}
 use Rattle.definitions.specs.Run.{Run, used, scratch, merged}
 use Rattle.definitions.specs.State.{merge_packs}

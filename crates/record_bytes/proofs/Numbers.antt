@@ -1,6 +1,5 @@
 -- The loop that stores a number's bytes.
-use mathlib.Core.Path.{◌≡◌, refl, sym, ap, ◌∙◌, subst}
-use mathlib.Core.Bool.{Bool, true, false}
+use mathlib.Core.Path.{◌≡◌, sym, ap, ◌∙◌}
 use mathlib.Core.List.{List}
 use Prim.Native.Nat.{ℕ, suc, ◌+◌, ◌-◌, ◌*◌, ◌/◌, ◌%◌, ◌^◌, ◌<◌, ◌≤◌}
 use native.Mathlib.Nat.{add-zero, pow-suc, pow-le-pow_right}
@@ -8,7 +7,7 @@ use native.Mathlib.Omega.{arith}
 use lib.Dec.{lit<}
 use lib.ListN.{set, get_or}
 use lib.Seq.{sets}
-use lib.Ieee.{Float, nan, binary64, is_nan, div, of_bits, to_bits, nan_bits}
+use lib.Ieee.{Float, binary64, of_bits, to_bits}
 use mir.Syntax.{w64}
 use mir.Val.{Fits}
 use Rattle.definitions.specs.Records.{little_endian, float_at, low_bytes}

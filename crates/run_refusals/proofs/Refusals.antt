@@ -27,7 +27,7 @@ use Rattle.state_refusals.proofs.Refusals.{kind_over}
 use Rattle.reducer.specs.declared.Edges.{Edges}
 use Rattle.reducer.specs.declared.Edges.TheVariants.{Regular, Irregular}
 use Rattle.reducer.specs.declared.Kind.{Kind}
-use Rattle.reducer.specs.declared.Kind.TheVariants.{Comp0Mean, ComponentSumMean, ComponentSumHistogram}
+use Rattle.reducer.specs.declared.Kind.TheVariants.{ComponentSumHistogram}
 use Rattle.reducer.specs.Readings.{edges_of, kind_of}
 use Rattle.parallel_serial.specs.declared.Shape.{Shape}
 use Rattle.parallel_serial.specs.Drive.{over_numbers, shape_rules, run_number}

@@ -1,5 +1,5 @@
 -- What the functions that judge a run promise: the definitions' tests in parts.
-use Rattle.std.specs.Prelude.{Bool, true, false, not, ◌&&◌, ◌||◌, ℕ, ◌≤◌, ltb}
+use Rattle.std.specs.Prelude.{Bool, true, false, not, ◌&&◌, ◌||◌, ◌≤◌, ltb}
 use Rattle.std.specs.Float.{nan}
 use Rattle.definitions.specs.Blocks as Blocks
 use Rattle.definitions.specs.Blocks.{CartesianBlock, required_length}

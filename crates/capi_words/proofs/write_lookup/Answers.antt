@@ -1,5 +1,4 @@
 use Rattle.capi_words.proofs.Words.{bin_written, none_written, refusal_written}
-use borrow.Author.Rules.{rules}
 use Rattle.capi_words.proofs.write_lookup.Goals as goal
 
 pub returns-in-At : goal.returns-in-At

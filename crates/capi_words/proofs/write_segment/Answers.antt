@@ -1,5 +1,4 @@
 use Rattle.capi_words.proofs.Words.{bounds_written, no_bounds_written}
-use borrow.Author.Rules.{rules}
 use Rattle.capi_words.proofs.write_segment.Goals as goal
 
 pub returns-in-Bounds : goal.returns-in-Bounds

@@ -1,5 +1,4 @@
 use Rattle.capi_words.proofs.Words.{three_stored, none_stored}
-use borrow.Author.Rules.{rules}
 use Rattle.capi_words.proofs.write_words.Goals as goal
 
 pub returns-then-out-eq3 : goal.returns-then-out-eq3

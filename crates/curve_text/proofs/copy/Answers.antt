@@ -1,9 +1,6 @@
-use mathlib.Core.Path.{◌≡◌, refl}
-use Prim.Native.Nat.{◌-◌, ◌≤◌}
+use mathlib.Core.Path.{refl}
 use native.Mathlib.Omega.{arith}
-use lib.ListN.{length, take, length-set}
-use borrow.Author.Rules.{rules}
-use Rattle.record_bytes.specs.Stores.{stored}
+use lib.ListN.{length-set}
 use Rattle.curve_text.proofs.Lines.{copy_none, copy_turn, copy_done}
 use Rattle.curve_text.proofs.copy.Goals as goal
 

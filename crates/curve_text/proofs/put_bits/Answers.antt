@@ -1,5 +1,4 @@
 use Rattle.curve_text.proofs.Lines.{bits_then_law}
-use borrow.Author.Rules.{rules}
 use Rattle.curve_text.proofs.put_bits.Goals as goal
 
 pub returns : goal.returns

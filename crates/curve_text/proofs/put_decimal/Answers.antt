@@ -1,7 +1,6 @@
 use native.Mathlib.Omega.{arith}
 use lib.ListN.{length-set}
 use Rattle.curve_text.proofs.Lines.{put_1, put_2, put_3, past_1, past_2, past_3}
-use borrow.Author.Rules.{rules}
 use Rattle.curve_text.proofs.put_decimal.Goals as goal
 
 pub returns-then-n-lt10-clause-value : goal.returns-then-n-lt10-clause-value

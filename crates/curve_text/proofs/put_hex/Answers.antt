@@ -1,10 +1,6 @@
-use mathlib.Core.Path.{◌≡◌, refl}
-use Prim.Native.Nat.{◌≤◌}
+use mathlib.Core.Path.{refl}
 use native.Mathlib.Omega.{arith}
-use lib.ListN.{length, length-set}
-use borrow.Author.Rules.{rules}
-use Rattle.record_bytes.specs.Stores.{stored}
-use Rattle.curve_text.specs.Text.{hex_text}
+use lib.ListN.{length-set}
 use Rattle.curve_text.proofs.Lines.{hex_turn, hex_done}
 use Rattle.curve_text.proofs.put_hex.Goals as goal
 

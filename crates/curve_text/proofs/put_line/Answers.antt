@@ -1,6 +1,5 @@
 use native.Mathlib.Omega.{arith}
 use Rattle.curve_text.proofs.Lines.{line_stored, line_past}
-use borrow.Author.Rules.{rules}
 use Rattle.curve_text.proofs.put_line.Goals as goal
 
 pub returns-clause-value : goal.returns-clause-value

@@ -1,11 +1,8 @@
-use mathlib.Core.Path.{◌≡◌, refl}
+use mathlib.Core.Path.{◌≡◌}
 use Prim.Native.Nat.{◌-◌, ◌*◌, ◌≤◌}
-use native.Mathlib.Omega.{arith}
 use lib.ListN.{length}
-use borrow.Author.Rules.{rules}
 use Rattle.record_bytes.specs.Stores.{stored}
 use Rattle.curve_text.specs.Text.{lines_text}
-use Rattle.curve_text.proofs.Lines.{lines_none, lines_start, lines_turn, lines_place, lines_length, lines_done}
 use Rattle.curve_text.proofs.put_lines.Given as goal
 
 abbrev pub invariant-loop-s : goal.invariant-loop-s

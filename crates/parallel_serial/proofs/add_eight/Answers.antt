@@ -1,5 +1,4 @@
 use Rattle.parallel_serial.proofs.Scratch.{four_sums}
-use borrow.Author.Rules.{rules}
 use Rattle.parallel_serial.proofs.add_eight.Goals as goal
 
 pub returns : goal.returns

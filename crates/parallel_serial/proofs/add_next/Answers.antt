@@ -1,6 +1,5 @@
 use Rattle.parallel_serial.proofs.Scratch.{sums_up_to, one_sum}
 use native.Mathlib.Omega.{arith}
-use borrow.Author.Rules.{rules}
 use Rattle.parallel_serial.proofs.add_next.Goals as goal
 
 pub returns-then-left-ge32 : goal.returns-then-left-ge32

@@ -1,9 +1,6 @@
-use mathlib.Core.Path.{◌≡◌, refl}
-use Prim.Native.Nat.{◌≤◌, ◌-◌}
+use mathlib.Core.Path.{refl}
 use native.Mathlib.Omega.{arith}
-use lib.ListN.{length}
 use borrow.Author.Rules.{rules}
-use Rattle.definitions.specs.State.{merge_packs}
 use Rattle.parallel_serial.proofs.Scratch.{sums_merged, added_done}
 use Rattle.parallel_serial.proofs.add_scratch.Goals as goal
 

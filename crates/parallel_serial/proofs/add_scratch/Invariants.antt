@@ -1,10 +1,7 @@
-use mathlib.Core.Path.{◌≡◌, refl}
+use mathlib.Core.Path.{◌≡◌}
 use Prim.Native.Nat.{◌≤◌, ◌-◌}
-use native.Mathlib.Omega.{arith}
 use lib.ListN.{length}
-use borrow.Author.Rules.{rules}
 use Rattle.definitions.specs.State.{merge_packs}
-use Rattle.parallel_serial.proofs.Scratch.{sums_merged, added_done, added_none}
 use Rattle.parallel_serial.proofs.add_scratch.Given as goal
 
 abbrev pub invariant-loop-i : goal.invariant-loop-i

@@ -1,5 +1,4 @@
 use Rattle.parallel_serial.proofs.Built.{build_made, build_refused}
-use borrow.Author.Rules.{rules}
 use Rattle.parallel_serial.proofs.build_edges.Goals as goal
 
 pub returns-in-Made : goal.returns-in-Made

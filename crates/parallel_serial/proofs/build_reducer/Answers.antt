@@ -1,5 +1,4 @@
 use Rattle.parallel_serial.proofs.Built.{build_histogram}
-use borrow.Author.Rules.{rules}
 use Rattle.parallel_serial.proofs.build_reducer.Goals as goal
 
 pub returns-in-ComponentSumHistogram : goal.returns-in-ComponentSumHistogram

@@ -1,10 +1,6 @@
-use mathlib.Core.Path.{◌≡◌, refl}
-use Prim.Native.Nat.{◌-◌, ◌≤◌}
+use mathlib.Core.Path.{refl}
 use native.Mathlib.Omega.{arith}
-use lib.ListN.{length, length-set}
-use borrow.Author.Rules.{rules}
-use Rattle.record_bytes.specs.Stores.{stored}
-use Rattle.record_bytes.specs.Columns.{numbers}
+use lib.ListN.{length-set}
 use Rattle.record_bytes.proofs.Columns.{record_inside, record_fits, numbers_none, numbers_turn, numbers_done}
 use Rattle.record_bytes.proofs.decode.Goals as goal
 

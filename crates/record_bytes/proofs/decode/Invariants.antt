@@ -1,11 +1,8 @@
-use mathlib.Core.Path.{◌≡◌, refl}
+use mathlib.Core.Path.{◌≡◌}
 use Prim.Native.Nat.{◌-◌, ◌≤◌}
-use native.Mathlib.Omega.{arith}
-use lib.ListN.{length, length-set}
-use borrow.Author.Rules.{rules}
+use lib.ListN.{length}
 use Rattle.record_bytes.specs.Stores.{stored}
 use Rattle.record_bytes.specs.Columns.{numbers}
-use Rattle.record_bytes.proofs.Columns.{record_inside, record_fits, numbers_none, numbers_turn, numbers_done}
 use Rattle.record_bytes.proofs.decode.Given as goal
 
 abbrev pub invariant-loop-i : goal.invariant-loop-i

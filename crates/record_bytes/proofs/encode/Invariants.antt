@@ -1,11 +1,8 @@
-use mathlib.Core.Path.{◌≡◌, refl}
+use mathlib.Core.Path.{◌≡◌}
 use Prim.Native.Nat.{◌-◌, ◌≤◌}
-use native.Mathlib.Omega.{arith}
 use lib.ListN.{length}
-use borrow.Author.Rules.{rules}
 use Rattle.record_bytes.specs.Stores.{stored}
 use Rattle.record_bytes.specs.Columns.{curve_records}
-use Rattle.record_bytes.proofs.Columns.{records_none, records_turn, records_done}
 use Rattle.record_bytes.proofs.encode.Given as goal
 
 abbrev pub invariant-loop-s : goal.invariant-loop-s

@@ -1,5 +1,4 @@
 use Rattle.record_bytes.proofs.Columns.{bin_stored}
-use borrow.Author.Rules.{rules}
 use Rattle.record_bytes.proofs.encode_bin.Goals as goal
 
 pub returns : goal.returns

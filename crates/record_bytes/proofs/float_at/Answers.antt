@@ -1,5 +1,4 @@
 use Rattle.record_bytes.proofs.Numbers.{word_float}
-use borrow.Author.Rules.{rules}
 use Rattle.record_bytes.proofs.float_at.Goals as goal
 
 pub returns : goal.returns

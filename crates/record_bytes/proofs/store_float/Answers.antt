@@ -1,10 +1,6 @@
-use mathlib.Core.Path.{◌≡◌, refl}
-use Prim.Native.Nat.{◌+◌, ◌-◌, ◌≤◌}
+use mathlib.Core.Path.{refl}
 use native.Mathlib.Omega.{arith}
-use lib.ListN.{length, length-set}
-use borrow.Author.Rules.{rules}
-use Rattle.record_bytes.specs.Stores.{stored}
-use Rattle.definitions.specs.Records.{low_bytes}
+use lib.ListN.{length-set}
 use Rattle.record_bytes.proofs.Numbers.{bytes_first, bytes_turn, bytes_done}
 use Rattle.record_bytes.proofs.store_float.Goals as goal
 

@@ -1,11 +1,8 @@
-use mathlib.Core.Path.{◌≡◌, refl}
+use mathlib.Core.Path.{◌≡◌}
 use Prim.Native.Nat.{◌+◌, ◌-◌, ◌≤◌}
-use native.Mathlib.Omega.{arith}
-use lib.ListN.{length, length-set}
-use borrow.Author.Rules.{rules}
+use lib.ListN.{length}
 use Rattle.record_bytes.specs.Stores.{stored}
 use Rattle.definitions.specs.Records.{low_bytes}
-use Rattle.record_bytes.proofs.Numbers.{bytes_first, bytes_turn, bytes_done}
 use Rattle.record_bytes.proofs.store_float.Given as goal
 
 abbrev pub invariant-loop-i : goal.invariant-loop-i

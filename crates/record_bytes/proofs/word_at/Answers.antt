@@ -1,8 +1,5 @@
-use mathlib.Core.Path.{◌≡◌, refl}
-use Prim.Native.Nat.{◌+◌, ◌-◌, ◌^◌, ◌≤◌, ◌<◌}
+use mathlib.Core.Path.{refl}
 use native.Mathlib.Omega.{arith}
-use borrow.Author.Rules.{rules}
-use Rattle.definitions.specs.Records.{little_endian}
 use Rattle.record_bytes.proofs.Numbers.{word_turn, word_done, word_mul, word_add, word_below}
 use Rattle.record_bytes.proofs.word_at.Goals as goal
 

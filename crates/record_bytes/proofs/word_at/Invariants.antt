@@ -1,9 +1,6 @@
-use mathlib.Core.Path.{◌≡◌, refl}
+use mathlib.Core.Path.{◌≡◌}
 use Prim.Native.Nat.{◌+◌, ◌-◌, ◌^◌, ◌≤◌, ◌<◌}
-use native.Mathlib.Omega.{arith}
-use borrow.Author.Rules.{rules}
 use Rattle.definitions.specs.Records.{little_endian}
-use Rattle.record_bytes.proofs.Numbers.{word_turn, word_done, word_mul, word_add, word_below}
 use Rattle.record_bytes.proofs.word_at.Given as goal
 
 abbrev pub invariant-loop-i : goal.invariant-loop-i

@@ -1,5 +1,4 @@
 use Rattle.run_refusals.proofs.Refusals.{new_made, new_refused, valid_accepted_law, valid_refused}
-use borrow.Author.Rules.{rules}
 use Rattle.run_refusals.proofs.edges_refusal.Goals as goal
 
 pub returns-in-Made : goal.returns-in-Made

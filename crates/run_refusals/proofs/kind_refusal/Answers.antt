@@ -1,5 +1,4 @@
 use Rattle.run_refusals.proofs.Refusals.{kind_histogram}
-use borrow.Author.Rules.{rules}
 use Rattle.run_refusals.proofs.kind_refusal.Goals as goal
 
 pub returns-in-ComponentSumHistogram : goal.returns-in-ComponentSumHistogram

@@ -1,5 +1,4 @@
 use Rattle.run_refusals.proofs.Refusals.{bins_regular, bins_none, bins_irregular}
-use borrow.Author.Rules.{rules}
 use Rattle.run_refusals.proofs.n_bins.Goals as goal
 
 pub returns-then-list-eq0 : goal.returns-then-list-eq0

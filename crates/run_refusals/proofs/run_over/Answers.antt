@@ -1,5 +1,4 @@
 use Rattle.run_refusals.proofs.Refusals.{over_sets_law, over_bins, over_size, over_pack_law}
-use borrow.Author.Rules.{rules}
 use Rattle.run_refusals.proofs.run_over.Goals as goal
 
 pub returns-then-sets_over : goal.returns-then-sets_over

@@ -1,5 +1,4 @@
 use Rattle.run_refusals.proofs.Refusals.{run_bins, run_size, run_over, run_sets, run_edges, run_kind, run_pairs, run_shape}
-use borrow.Author.Rules.{rules}
 use Rattle.run_refusals.proofs.run_refusal.Goals as goal
 
 pub returns-then-run_over : goal.returns-then-run_over

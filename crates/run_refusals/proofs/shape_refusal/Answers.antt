@@ -1,5 +1,4 @@
 use Rattle.run_refusals.proofs.Refusals.{shape_23, shape_24, shape_0}
-use borrow.Author.Rules.{rules}
 use Rattle.run_refusals.proofs.shape_refusal.Goals as goal
 
 pub returns-then-teams : goal.returns-then-teams

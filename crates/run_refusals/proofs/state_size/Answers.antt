@@ -1,5 +1,4 @@
 use Rattle.run_refusals.proofs.Refusals.{size_histogram}
-use borrow.Author.Rules.{rules}
 use Rattle.run_refusals.proofs.state_size.Goals as goal
 
 pub returns-in-ComponentSumHistogram : goal.returns-in-ComponentSumHistogram

@@ -1,5 +1,4 @@
 use Rattle.spatial.proofs.Refusals.{limited, over_numbers_law, over_length, over_globals}
-use borrow.Author.Rules.{rules}
 use Rattle.spatial.proofs.block_over.Goals as goal
 
 pub returns-then-numbers_over : goal.returns-then-numbers_over

@@ -1,6 +1,5 @@
 use native.Mathlib.Omega.{arith}
 use Rattle.spatial.proofs.Refusals.{y_fits, x_fits, block_14_z, block_14_y, block_14_x, block_15, block_16, block_17, block_18, block_19_0, block_19_1, block_19_2, block_0}
-use borrow.Author.Rules.{rules}
 use Rattle.spatial.proofs.block_refusal.Goals as goal
 
 pub returns-then-b-eq0 : goal.returns-then-b-eq0

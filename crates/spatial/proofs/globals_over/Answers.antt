@@ -1,6 +1,5 @@
 use native.Mathlib.Omega.{arith}
 use Rattle.spatial.proofs.Refusals.{globals_z, globals_y, globals_x}
-use borrow.Author.Rules.{rules}
 use Rattle.spatial.proofs.globals_over.Goals as goal
 
 pub returns-then-outside : goal.returns-then-outside

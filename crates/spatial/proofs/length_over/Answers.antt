@@ -1,5 +1,4 @@
 use Rattle.spatial.proofs.Refusals.{length_z, length_y, length_x, length_most}
-use borrow.Author.Rules.{rules}
 use Rattle.spatial.proofs.length_over.Goals as goal
 
 pub returns-then-b-eq0 : goal.returns-then-b-eq0

@@ -1,4 +1,4 @@
-use borrow.Author.Tests.{lt-ltb, le-ltb, eq-eqb, ne_eqb}
+use borrow.Author.Tests.{lt-ltb, le-ltb}
 use Rattle.spatial.specs.Refusals.{numbers_over}
 use Rattle.spatial.proofs.numbers_over.Goals as goal
 

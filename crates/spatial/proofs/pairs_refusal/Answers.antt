@@ -1,5 +1,4 @@
 use Rattle.spatial.proofs.Refusals.{pairs_22, pairs_auto, pairs_21, pairs_cross, plane_fits, cells_fit}
-use borrow.Author.Rules.{rules}
 use Rattle.spatial.proofs.pairs_refusal.Goals as goal
 
 pub overflow_mul-a : goal.overflow_mul-a

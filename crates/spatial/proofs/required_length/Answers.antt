@@ -1,6 +1,5 @@
 use native.Mathlib.Omega.{arith}
 use Rattle.spatial.proofs.Refusals.{first_product, second_product}
-use borrow.Author.Rules.{rules}
 use Rattle.spatial.proofs.required_length.Goals as goal
 
 pub overflow_mul-result : goal.overflow_mul-result

@@ -1,6 +1,5 @@
 use Rattle.spatial.proofs.Runs.{number_7, number_is}
 use Rattle.spatial.proofs.Limits.{limited_first, limited_second}
-use borrow.Author.Rules.{rules}
 use Rattle.spatial.proofs.run_refusal.Goals as goal
 
 pub returns-then-sets_over : goal.returns-then-sets_over

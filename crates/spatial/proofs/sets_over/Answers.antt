@@ -1,5 +1,4 @@
 use Rattle.spatial.proofs.Refusals.{over_first, over_auto, over_second}
-use borrow.Author.Rules.{rules}
 use Rattle.spatial.proofs.sets_over.Goals as goal
 
 pub returns-then-block_over : goal.returns-then-block_over

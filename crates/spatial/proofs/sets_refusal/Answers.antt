@@ -1,5 +1,4 @@
 use Rattle.spatial.proofs.Refusals.{refused_first, refused_auto, refused_second, refused_width}
-use borrow.Author.Rules.{rules}
 use Rattle.spatial.proofs.sets_refusal.Goals as goal
 
 pub returns-then-first-ne0 : goal.returns-then-first-ne0

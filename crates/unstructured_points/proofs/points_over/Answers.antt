@@ -1,5 +1,4 @@
 use Rattle.unstructured_points.proofs.Rules.{over_count, over_stride}
-use borrow.Author.Rules.{rules}
 use Rattle.unstructured_points.proofs.points_over.Goals as goal
 
 pub returns-then-set-gt4096 : goal.returns-then-set-gt4096

@@ -1,5 +1,4 @@
 use Rattle.unstructured_points.proofs.Rules.{points_numbers}
-use borrow.Author.Rules.{rules}
 use Rattle.unstructured_points.proofs.points_refusal.Goals as goal
 
 pub returns-then-set-eq0 : goal.returns-then-set-eq0

@@ -1,5 +1,4 @@
 use Rattle.unstructured_points.proofs.Rules.{by_calls}
-use borrow.Author.Rules.{rules}
 use Rattle.unstructured_points.proofs.run_refusal.Goals as goal
 
 pub returns : goal.returns

@@ -1,5 +1,4 @@
 use Rattle.unstructured_points.proofs.Rules.{over_first, over_auto, over_second}
-use borrow.Author.Rules.{rules}
 use Rattle.unstructured_points.proofs.sets_over.Goals as goal
 
 pub returns-then-points_over : goal.returns-then-points_over

@@ -1,5 +1,4 @@
 use Rattle.unstructured_points.proofs.Rules.{refused_first, refused_auto, refused_second}
-use borrow.Author.Rules.{rules}
 use Rattle.unstructured_points.proofs.sets_refusal.Goals as goal
 
 pub returns-then-number-ne0 : goal.returns-then-number-ne0
