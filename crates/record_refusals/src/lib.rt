@@ -28,6 +28,7 @@ fn edges_refusal(edges: &[u8]) -> u32
 }
 
 // 7; 27, points first; points; edges.
+#[tactic(auto, using(crate::proofs::Rules::then_edges), unfolding(crate::specs::Answers::curve_number))]
 pub fn curve_refusal(points: &[u8], edges: &[u8]) -> u32
     ensures { result ≡ curve_number points.now edges.now }
 {
