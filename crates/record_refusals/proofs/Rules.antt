@@ -1,18 +1,15 @@
 -- The rules of a curve, one after the other as the code judges them.
 use mathlib.Core.Path.{◌≡◌, refl, sym, ap, ◌∙◌}
-use mathlib.Core.Bool.{true, false, cond, not, ◌||◌}
-use mathlib.Core.List.{List, [], ◌∷◌, ◌++◌, map}
-use Prim.Native.Nat.{ℕ, ◌+◌, ◌-◌, ◌*◌, ◌/◌, ◌%◌, ◌≤◌, ◌<◌}
+use mathlib.Core.List.{List, ◌++◌}
+use Prim.Native.Nat.{ℕ, ◌-◌, ◌*◌, ◌/◌, ◌%◌, ◌≤◌, ◌<◌}
 use native.Mathlib.Nat.{add-zero, le_refl, mul-mod_left, mul-div_cancel}
 use native.Mathlib.Omega.{arith}
-use lib.ListN.{length, take, length-map, length-append}
+use lib.ListN.{length, take, length-append}
 use lib.Ieee.{Float}
 use borrow.Author.Tests.{lt-ltb, le-ltb, eq-eqb, ne_eqb}
-use Rattle.definitions.specs.Lists.{upto}
 use Rattle.definitions.specs.Bins.{bins, irregular}
-use Rattle.definitions.specs.Points.{UnstructuredPoints}
 use Rattle.definitions.specs.Rules.{Rule, refusal, point_rules, irregular_rules, edges_call_rules}
-use Rattle.definitions.specs.Records.{float_at, column, record_points, record_edges, curve_bins, curve_rules}
+use Rattle.definitions.specs.Records.{column, record_points, record_edges, curve_bins}
 use Rattle.record_bytes.specs.Stores.{stored}
 use Rattle.record_bytes.specs.Columns.{numbers, edges_read}
 use Rattle.record_refusals.specs.Answers.{curve_number}

@@ -1,7 +1,6 @@
 use native.Mathlib.Omega.{arith}
 use lib.ListN.{length-take}
 use Rattle.record_refusals.proofs.Rules.{edges_number}
-use borrow.Author.Rules.{rules}
 use Rattle.record_refusals.proofs.edges_refusal.Goals as goal
 
 pub slice_bounds-edges_refusal-end : goal.slice_bounds-edges_refusal-end
