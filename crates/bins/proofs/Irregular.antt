@@ -1,12 +1,16 @@
 -- Steps of the loops over irregular edges, and each outcome of their definitions.
 use mathlib.Core.Path.{◌≡◌, refl, sym, ◌∙◌, ap, subst}
-use mathlib.Core.Option.{Option, none, some}
+use Rattle.std.specs.Prelude.{Option, None, Some}
 use mathlib.Core.Bool.{Bool, true, false, ◌||◌}
 use mathlib.Core.List.{List, [], ◌∷◌}
-use Prim.Native.Nat.{ℕ, zero, suc, ◌+◌, ◌-◌, ◌/◌, ◌<◌, ◌≤◌}
+use Prim.Native.Nat.{ℕ, zero, suc, ◌-◌, ◌<◌, ◌≤◌, zero-le}
 use native.Mathlib.Omega.{arith}
 use lib.Dec.{T, leb}
-use lib.ListN.{length}
+use lib.ListN.{length, get_or}
+use native.Mathlib.Nat.{le_refl}
+use Rattle.std.specs.Prelude.{SomeIff}
+use Rattle.std.specs.List.Sorted.{IsPartitionedBy, IsPartitionPoint}
+use Rattle.std.proofs.lemmas.List.{get_or_default}
 use lib.Ieee.{Float, nan, inf, fin, binary64, lt, le, eq, is_nan, fits}
 use lib.Ieee.Scale.{finite}
 use lib.Ieee.Fits.{and_l, and_r}
@@ -54,7 +58,7 @@ pub ruleset outside_outcomes = (outside_nan, outside_empty, outside_low, outside
 
 -- ---- the end tests decide, or the last edge not after the value does
 module _ (es : List Float) (x : Float) (r : Bool) (q : r ≡ Outside es x) where
-  pub index_outside : r ≡ true → none ≡ irregular_index es x
+  pub index_outside : r ≡ true → None ≡ irregular_index es x
   unfolding irregular_index
   index_outside h = rw (← q, h)
 
@@ -75,7 +79,7 @@ module _ (es : List Float) (x : Float) (f : fits binary64 x ≡ true) (g : (i : 
 
   -- the scan from the last edge down; k is the key of the edge before i
   module _ (i : ℕ) (z : 0 < i) (inv : last_edge es x i ≡ last_edge es x (length es)) (k : ℕ) (q : k ≡ order_key (at es (i - 1))) where
-    pub scan_found : k ≤ key → some (i - 1) ≡ last_edge es x (length es)
+    pub scan_found : k ≤ key → Some (i - 1) ≡ last_edge es x (length es)
     unfolding last_edge
     scan_found t =
         let e : i ≡ suc (i - 1) = omega arith in
@@ -87,15 +91,20 @@ module _ (es : List Float) (x : Float) (f : fits binary64 x ≡ true) (g : (i : 
         let e : i ≡ suc (i - 1) = omega arith in
         sym (ap (last_edge es x) e ∙ rw (by_key (i - 1) k q, lt-leb k key t)) ∙ inv
 
-  -- the search by halves; k is the key of the edge in the middle
-  module _ (a : T (all_finite es)) (b : T (increasing es)) (lo hi : ℕ) (l : lo < hi) (h : hi ≤ length es) (k : ℕ) (q : k ≡ order_key (at es (lo + (hi - lo) / 2))) where
-    pub halves_up : k ≤ key → AtMost es x (lo + (hi - lo) / 2 + 1)
-    halves_up t i u = by_key i (order_key (at es i)) refl ∙ le-leb _ key (omega (arith, sorted es g a b i (lo + (hi - lo) / 2) (omega arith) (omega arith)))
+  -- the search by halves: whether an edge's key is at most the value's
+  abbrev pub not_above : Float → Bool
+  not_above y = leb (order_key y) key
 
-    pub halves_down : key < k → Above es x (lo + (hi - lo) / 2)
-    halves_down t i u v = by_key i (order_key (at es i)) refl ∙ lt-leb _ key (omega (arith, sorted es g a b (lo + (hi - lo) / 2) i u v))
+  pub parted : T (all_finite es) → T (increasing es) → IsPartitionedBy not_above es
+  parted a b i j d h l t =
+      let e : get_or es i d ≡ at es i = get_or_default es i d nan (omega arith) in
+      let k : get_or es j d ≡ at es j = get_or_default es j d nan l in
+      ap not_above e ∙ le-leb _ key (omega (arith, sorted es g a b i j h l, leb-true (order_key (at es j)) key (ap not_above (sym k) ∙ t)))
 
-pub scan_done : (es : List Float) (x : Float) (i : ℕ) → i ≤ 0 → last_edge es x i ≡ last_edge es x (length es) → none ≡ last_edge es x (length es)
+  pub split : (n : ℕ) → IsPartitionPoint (λ y. not_above y ≡ true) (λ y. not_above y ≡ false) es n → AtMost es x n × Above es x n
+  split n s = ((λ i u. by_key i (order_key (at es i)) refl ∙ s.0 i nan zero-le u), (λ i u v. by_key i (order_key (at es i)) refl ∙ s.1 i nan u v))
+
+pub scan_done : (es : List Float) (x : Float) (i : ℕ) → i ≤ 0 → last_edge es x i ≡ last_edge es x (length es) → None ≡ last_edge es x (length es)
 unfolding last_edge
 scan_done es x i z inv =
     let e : 0 ≡ i = omega arith in
@@ -121,12 +130,17 @@ module _ (es : List Float) (x : Float) (lo hi : ℕ) (l : lo ≤ hi) (g : hi ≤
   ends : last_edge es x (length es) ≡ last_edge es x lo
   ends = past es x (length es) lo (omega arith) (λ i k m. b i (omega arith) m)
 
-  pub halves_none : lo ≡ 0 → none ≡ last_edge es x (length es)
+  pub halves_none : lo ≡ 0 → None ≡ last_edge es x (length es)
   unfolding last_edge
   halves_none z = sym (ends ∙ ap (last_edge es x) z)
 
-  pub halves_at : AtMost es x lo → (lo ≡ 0 → ⊥) → some (lo - 1) ≡ last_edge es x (length es)
+  pub halves_at : AtMost es x lo → (lo ≡ 0 → ⊥) → Some (lo - 1) ≡ last_edge es x (length es)
   unfolding last_edge
   halves_at a z =
       let e : lo ≡ suc (lo - 1) = omega arith in
       sym (ends ∙ ap (last_edge es x) e ∙ (rw (a (lo - 1) (omega arith))))
+
+-- n edges are not after x, r is their last one's index
+pub halves_done : (es : List Float) (x : Float) (n : ℕ) → n ≤ length es → AtMost es x n × Above es x n → (r : Option ℕ) → SomeIff r (1 ≤ n) (n - 1) → r ≡ last_edge es x (length es)
+halves_done es x n h a None s = halves_none es x n n (le_refl n) (le_refl n) h a.1 (omega (arith, s))
+halves_done es x n h a (Some i) s = ap Some s.1 ∙ halves_at es x n n (le_refl n) (le_refl n) h a.1 a.0 (λ z. absurd (omega (arith, s.0, z)))

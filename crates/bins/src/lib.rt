@@ -2,12 +2,15 @@
 #![tactic(auto)]
 
 ghost use Rattle.std.specs.Prelude.{◌≡◌, ◌||◌, ◌-◌, length};
-ghost use Rattle.std.proofs.Math.Option.{none, some};
 ghost use Rattle.std.specs.Float.Ieee.{lt, le, is_nan};
 ghost use Rattle.definitions.specs.Lists.{at};
 ghost use Rattle.definitions.specs.Bins.{regular, regular_index, last_edge, irregular_index};
 ghost use Rattle.definitions.specs.Rules.{refusal, if_accepted, edges_call_rules};
-ghost use Rattle.bins.specs.Answers.{regular_of, new_number, new_edges, index_of};
+ghost use Rattle.std.specs.Result.{result_ok};
+ghost use Rattle.refusals.specs.Numbers.{number_of};
+ghost use Rattle.bins.specs.Answers.{regular_of};
+
+use refusals::Refusal;
 
 pub const MAX_BINS: usize = 256;
 
@@ -20,72 +23,58 @@ pub struct RegularBinEdges {
     pub n_bins: usize,
 }
 
-// The edges, or the number of the refusal.
-#[derive(Clone, Copy)]
-pub enum RegularNew {
-    Made(RegularBinEdges),
-    Refused(u32),
-}
-
-// The bin of a value, if it has one.
-#[derive(Clone, Copy)]
-pub enum BinIndex {
-    At(usize),
-    None,
-}
-
 impl RegularBinEdges {
     // n_bins bins of one size from min to max. The refusals come in the paper's order.
     #[tactic(auto, using(crate::proofs::Regular::count_exact), unfolding(definitions::specs::Bins::bins))]
-    pub fn new(min: f64, max: f64, n_bins: usize) -> RegularNew
-        ensures number { new_number result ≡ refusal (edges_call_rules (regular min max n_bins)) }
-        ensures edges { new_edges result ≡ if_accepted (edges_call_rules (regular min max n_bins)) (some (regular_of min max n_bins)) none }
+    pub fn new(min: f64, max: f64, n_bins: usize) -> Result<RegularBinEdges, Refusal>
+        ensures number { number_of result ≡ refusal (edges_call_rules (regular min max n_bins)) }
+        ensures edges { result_ok result ≡ if_accepted (edges_call_rules (regular min max n_bins)) (Some (regular_of min max n_bins)) None }
     {
         if n_bins > MAX_BINS {
-            return RegularNew::Refused(7);
+            return Err(Refusal::OverLimit);
         }
         if n_bins == 0 {
-            return RegularNew::Refused(8);
+            return Err(Refusal::NoBins);
         }
         if max <= min {
-            return RegularNew::Refused(9);
+            return Err(Refusal::MaxNotAboveMin);
         }
         let diff = max - min;
         if floats::is_finite(diff) {
             let bin_size = diff / (n_bins as f64);
             if bin_size == 0.0 {
-                return RegularNew::Refused(11);
+                return Err(Refusal::NoBinSize);
             }
-            return RegularNew::Made(RegularBinEdges {
+            return Ok(RegularBinEdges {
                 min,
                 max,
                 bin_size,
                 n_bins,
             });
         }
-        RegularNew::Refused(10)
+        Err(Refusal::NotFinite)
     }
 
     // For every struct, also one built by hand. The index may reach n_bins or more.
-    pub fn bin_index(self, value: f64) -> BinIndex
-        ensures { index_of result ≡ regular_index self.min self.max self.bin_size value }
+    pub fn bin_index(self, value: f64) -> Option<usize>
+        ensures { result ≡ regular_index self.min self.max self.bin_size value }
     {
         if value < self.min {
-            return BinIndex::None;
+            return None;
         }
         if value >= self.max {
-            return BinIndex::None;
+            return None;
         }
-        BinIndex::At(floats::as_usize((value - self.min) / self.bin_size))
+        Some(floats::as_usize((value - self.min) / self.bin_size))
     }
 }
 
 // The lookup in any slice, unsorted or empty too: from the last edge down.
-pub fn last_not_after(edges: &[f64], value: f64) -> BinIndex
-    ensures { index_of result ≡ irregular_index edges.now value }
+pub fn last_not_after(edges: &[f64], value: f64) -> Option<usize>
+    ensures { result ≡ irregular_index edges.now value }
 {
     if outside(edges, value) {
-        return BinIndex::None;
+        return None;
     }
     last_by_scan(edges, value)
 }
@@ -94,7 +83,7 @@ pub fn last_not_after(edges: &[f64], value: f64) -> BinIndex
 pub fn outside(edges: &[f64], value: f64) -> bool
     ensures { result ≡ (is_nan value || lt value (at edges.now 0) || le (at edges.now (length edges.now - 1)) value) }
 {
-    if floats::is_nan(value) {
+    if value.is_nan() {
         return true;
     }
     if edges.len() == 0 {
@@ -110,16 +99,14 @@ pub fn outside(edges: &[f64], value: f64) -> bool
 
 // The last edge not after the value.
 #[tactic(auto, using(crate::proofs::Irregular::scan_found))]
-fn last_by_scan(edges: &[f64], value: f64) -> BinIndex
-    ensures { index_of result ≡ last_edge edges.now value (length edges.now) }
+fn last_by_scan(edges: &[f64], value: f64) -> Option<usize>
+    ensures { result ≡ last_edge edges.now value (length edges.now) }
 {
     let key = floats::total_key(value);
-    let mut i = edges.len();
-    while i > 0 {
-        i -= 1;
+    for i in (0..edges.len()).rev() {
         if floats::total_key(edges[i]) <= key {
-            return BinIndex::At(i);
+            return Some(i);
         }
     }
-    BinIndex::None
+    None
 }

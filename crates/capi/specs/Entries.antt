@@ -1,19 +1,43 @@
--- The structs of a flat call, by its numbers.
-use Rattle.std.specs.Prelude.{ℕ, ℤ, Float}
+-- What a flat call's numbers and slices stand for in the definitions.
+use Rattle.std.specs.Prelude.{List, ℕ, ℤ, Float}
+use Rattle.definitions.specs.Points.{UnstructuredPoints}
+use Rattle.definitions.specs.Blocks.{CartesianBlock, CellWidth}
+use Rattle.definitions.specs.Run.{Sets, Run}
 use Rattle.parallel_serial.specs.declared.Shape.{Shape}
-use Rattle.unstructured_points.specs.declared.PointSet.{PointSet}
-use Rattle.spatial.specs.declared.Block.{Block}
-use Rattle.spatial.specs.declared.CellWidth.{CellWidth}
-use Rattle.capi_words.specs.Words.{stride_from}
+use Rattle.parallel_serial.specs.Drive.{sets_run}
+use Rattle.capi_words.specs.Words.{edges_from, kind_from, op_from, stride_from}
 
-abbrev pub set_from : ℕ → ℕ → ℕ → PointSet
-set_from n stated k = record { n_points = n; stride = stride_from stated k }
+abbrev pub points_from : (n stated stride : ℕ) → (positions values weights : List Float) → UnstructuredPoints
+points_from n stated stride p v w = record { count = n; stated = stride_from stated stride; positions = p; values = v; weights = w }
 
-abbrev pub block_from : (nz ny nx sz sy sx : ℕ) → (gz gy gx : ℤ) → Block
-block_from nz ny nx sz sy sx gz gy gx = record { nz = nz; ny = ny; nx = nx; sz = sz; sy = sy; sx = sx; gz = gz; gy = gy; gx = gx }
+abbrev pub block_from : (nz ny nx sz sy sx : ℕ) → (gz gy gx : ℤ) → (c0 c1 c2 weights : List Float) → CartesianBlock
+block_from nz ny nx sz sy sx gz gy gx c0 c1 c2 w =
+    record {
+      nz = nz;
+      ny = ny;
+      nx = nx;
+      sz = sz;
+      sy = sy;
+      sx = sx;
+      gz = gz;
+      gy = gy;
+      gx = gx;
+      comp0 = c0;
+      comp1 = c1;
+      comp2 = c2;
+      weights = w;
+    }
 
 abbrev pub width_from : (z y x : Float) → CellWidth
-width_from z y x = record { z = z; y = y; x = x }
+width_from z y x = record { wz = z; wy = y; wx = x }
 
 abbrev pub shape_from : (states size members teams : ℕ) → Shape
 shape_from states size members teams = record { n_states = states; state_size = size; members = members; teams = teams }
+
+-- a run over these sets: the distance edges, the form, a histogram's value edges, the operation, and the shape
+abbrev pub run_from : Sets → (irregular : ℕ) → (min max : Float) → (n : ℕ) → (list : List Float)
+    → (form value_irregular : ℕ) → (value_min value_max : Float) → (value_n : ℕ) → (value_list : List Float)
+    → (subtract states size members teams : ℕ) → Run
+run_from sets irregular min max n list form value_irregular value_min value_max value_n value_list subtract states size members teams =
+    sets_run sets (edges_from irregular min max n) list (kind_from form (edges_from value_irregular value_min value_max value_n)) value_list
+    (op_from subtract) (shape_from states size members teams)

@@ -1,49 +1,42 @@
 // The library's operations for C: numbers and slices alone, a slice as a pointer and a length. Nothing is asked of a caller but live slices.
+// The lists of parameters, their numbers and their names are the C interface.
 #![tactic(auto)]
 
 ghost use Rattle.std.specs.Prelude.{◌≡◌, ◌*◌, length};
-ghost use Rattle.std.proofs.Math.Option.{none, some};
 ghost use Rattle.definitions.specs.Bins.{regular, irregular, find};
 ghost use Rattle.definitions.specs.Segments.{segment_start, segment_stop};
 ghost use Rattle.definitions.specs.State.{reset_pack, merge_packs, consolidate_packs, result_value};
-ghost use Rattle.definitions.specs.Rules.{refusal, if_accepted, edges_call_rules, segment_rules, reset_rules, merge_rules, consolidate_rules, result_rules, run_rules, step};
-ghost use Rattle.state.specs.Readings.{state_kind_of};
+ghost use Rattle.definitions.specs.Run.{one_points, two_points, one_block, two_blocks};
+ghost use Rattle.definitions.specs.Rules.{refusal, if_accepted, edges_call_rules, segment_rules, run_rules, step};
+ghost use Rattle.definitions.specs.Rules.{reset_rules, merge_rules, consolidate_rules, result_rules};
+ghost use Rattle.state_refusals.specs.Readings.{state_kind_of};
+ghost use Rattle.capi_words.specs.Words.{edges_from, kind_from, op_from, stride_from, state_kind_from, written, lookup_words, segment_words};
 ghost use Rattle.unstructured_points.specs.Readings.{points_of};
-ghost use Rattle.unstructured.specs.Readings as points;
-ghost use Rattle.spatial.specs.Readings.{block_of};
-ghost use Rattle.twopoint_cartesian.specs.Readings as blocks;
-ghost use Rattle.capi_words.specs.Words.{edges_from, kind_from, op_from, state_kind_from, written, lookup_words, segment_words};
-ghost use Rattle.capi.specs.Entries.{set_from, block_from, width_from, shape_from};
+ghost use Rattle.capi.specs.Entries.{points_from, block_from, width_from, shape_from, run_from};
 
 use parallel_serial::Shape;
 use spatial::{Block, CellWidth};
+use state_refusals::PackShape;
 use unstructured_points::PointSet;
 
 // ---- what the numbers stand for
 
-fn block_from(
-    nz: usize,
-    ny: usize,
-    nx: usize,
-    sz: usize,
-    sy: usize,
-    sx: usize,
-    gz: i64,
-    gy: i64,
-    gx: i64,
-) -> Block
-    ensures { result ≡ block_from nz ny nx sz sy sx gz gy gx }
+fn set_from<'a>(
+    positions: &'a [f64],
+    values: &'a [f64],
+    weights: &'a [f64],
+    n_points: usize,
+    stated: u64,
+    stride: usize,
+) -> PointSet<'a>
+    ensures { points_of result ≡ points_from n_points stated stride positions.entry.now values.entry.now weights.entry.now }
 {
-    Block {
-        nz,
-        ny,
-        nx,
-        sz,
-        sy,
-        sx,
-        gz,
-        gy,
-        gx,
+    PointSet {
+        positions,
+        values,
+        weights,
+        n_points,
+        stride: capi_words::stride_from(stated, stride),
     }
 }
 
@@ -58,7 +51,7 @@ pub extern "C" fn pairstat_regular_bin_index(
     out: &mut [u64],
 )
     ensures { out.new ≡ written (lookup_words (refusal (edges_call_rules (regular min max n_bins)))
-        (if_accepted (edges_call_rules (regular min max n_bins)) (some (find (regular min max n_bins) value)) none)) out.old }
+        (if_accepted (edges_call_rules (regular min max n_bins)) (Some (find (regular min max n_bins) value)) None)) out.old }
 {
     capi_words::write_lookup(bin_lookups::regular_bin_index(min, max, n_bins, value), out);
 }
@@ -66,7 +59,7 @@ pub extern "C" fn pairstat_regular_bin_index(
 #[unsafe(no_mangle)]
 pub extern "C" fn pairstat_irregular_bin_index(edges: &[f64], value: f64, out: &mut [u64])
     ensures { out.new ≡ written (lookup_words (refusal (edges_call_rules (irregular edges.now)))
-        (if_accepted (edges_call_rules (irregular edges.now)) (some (find (irregular edges.now) value)) none)) out.old }
+        (if_accepted (edges_call_rules (irregular edges.now)) (Some (find (irregular edges.now) value)) None)) out.old }
 {
     capi_words::write_lookup(bin_lookups::irregular_bin_index(edges, value), out);
 }
@@ -80,7 +73,7 @@ pub extern "C" fn pairstat_segment_idx_bounds(
 )
     ensures { out.new ≡ written (segment_words (refusal (segment_rules seg_index n_segments))
         (if_accepted (segment_rules seg_index n_segments)
-        (some (segment_start n_indices n_segments seg_index, segment_stop n_indices n_segments seg_index)) none)) out.old }
+        (Some (segment_start n_indices n_segments seg_index, segment_stop n_indices n_segments seg_index)) None)) out.old }
 {
     capi_words::write_segment(
         misc::segment_idx_bounds(n_indices, seg_index, n_segments),
@@ -103,7 +96,11 @@ pub extern "C" fn pairstat_reset_full_statepack(
         (reset_pack (n_states * state_size) pack.old) pack.old }
 {
     let kind = capi_words::state_kind_from(histogram, n_bins);
-    capi_words::number_from(state::reset_full_statepack(kind, n_states, state_size, pack))
+    let shape = PackShape {
+        n_states,
+        state_size,
+    };
+    refusals::number_of(state::reset_full_statepack(kind, shape, pack))
 }
 
 #[unsafe(no_mangle)]
@@ -124,15 +121,15 @@ pub extern "C" fn pairstat_merge_full_statepacks(
         (merge_packs (n_states * state_size) pack.old other.now) pack.old }
 {
     let kind = capi_words::state_kind_from(histogram, n_bins);
-    capi_words::number_from(state::merge_full_statepacks(
-        kind,
+    let shape = PackShape {
         n_states,
         state_size,
-        other_states,
-        other_size,
-        pack,
-        other,
-    ))
+    };
+    let other_shape = PackShape {
+        n_states: other_states,
+        state_size: other_size,
+    };
+    refusals::number_of(state::merge_full_statepacks(kind, shape, other_shape, pack, other))
 }
 
 #[unsafe(no_mangle)]
@@ -145,13 +142,16 @@ pub extern "C" fn pairstat_serial_consolidate_scratch_statepacks(
     packs: &mut [f64],
 ) -> u32
     ensures value { result ≡ refusal (consolidate_rules (state_kind_of (state_kind_from histogram n_bins)) n_packs n_states state_size (length packs.old)) }
-    ensures packs_after { packs.new ≡ if_accepted (consolidate_rules (state_kind_of (state_kind_from histogram n_bins)) n_packs n_states state_size (length packs.old))
+    ensures packs_after { packs.new ≡ if_accepted (consolidate_rules (state_kind_of (state_kind_from histogram n_bins)) n_packs n_states state_size
+        (length packs.old))
         (consolidate_packs n_packs (n_states * state_size) packs.old) packs.old }
 {
     let kind = capi_words::state_kind_from(histogram, n_bins);
-    capi_words::number_from(state::serial_consolidate_scratch_statepacks(
-        kind, n_packs, n_states, state_size, packs,
-    ))
+    let shape = PackShape {
+        n_states,
+        state_size,
+    };
+    refusals::number_of(state::serial_consolidate_scratch_statepacks(kind, n_packs, shape, packs))
 }
 
 #[unsafe(no_mangle)]
@@ -164,14 +164,18 @@ pub extern "C" fn pairstat_value_from_accum_state(
     pack: &[f64],
     value: &mut [f64],
 ) -> u32
-    ensures value { result ≡ refusal (result_rules (state_kind_of (state_kind_from histogram n_bins)) n_states state_size index (length pack.now) (length value.old)) }
-    ensures value_after { value.new ≡ if_accepted (result_rules (state_kind_of (state_kind_from histogram n_bins)) n_states state_size index (length pack.now) (length value.old))
+    ensures value { result ≡ refusal (result_rules (state_kind_of (state_kind_from histogram n_bins)) n_states state_size index
+        (length pack.now) (length value.old)) }
+    ensures value_after { value.new ≡ if_accepted (result_rules (state_kind_of (state_kind_from histogram n_bins)) n_states state_size index
+        (length pack.now) (length value.old))
         (result_value (state_kind_of (state_kind_from histogram n_bins)) n_states index pack.now value.old) value.old }
 {
     let kind = capi_words::state_kind_from(histogram, n_bins);
-    capi_words::number_from(state::value_from_accum_state(
-        kind, n_states, state_size, index, pack, value,
-    ))
+    let shape = PackShape {
+        n_states,
+        state_size,
+    };
+    refusals::number_of(state::value_from_accum_state(kind, shape, index, pack, value))
 }
 
 // ---- the runs: the number of the refusal, 0 for none
@@ -202,17 +206,14 @@ pub extern "C" fn pairstat_points_auto(
     teams: usize,
     pack: &mut [f64],
 ) -> u32
-    ensures value { result ≡ refusal (run_rules (points.auto_run (points_of (set_from n_points stated stride) positions.now values.now weights.now) (edges_from irregular min max n_bins) list.now
-        (kind_from form (edges_from value_irregular value_min value_max value_bins)) value_edges.now (op_from subtract)
-        (shape_from n_states state_size members teams)) (length pack.old)) }
-    ensures pack_after { pack.new ≡ step (points.auto_run (points_of (set_from n_points stated stride) positions.now values.now weights.now) (edges_from irregular min max n_bins) list.now
-        (kind_from form (edges_from value_irregular value_min value_max value_bins)) value_edges.now (op_from subtract)
-        (shape_from n_states state_size members teams)) pack.old }
+    ensures value { result ≡ refusal (run_rules (run_from (one_points (points_from n_points stated stride positions.now values.now weights.now))
+        irregular min max n_bins list.now
+        form value_irregular value_min value_max value_bins value_edges.now subtract n_states state_size members teams) (length pack.old)) }
+    ensures pack_after { pack.new ≡ step (run_from (one_points (points_from n_points stated stride positions.now values.now weights.now))
+        irregular min max n_bins list.now
+        form value_irregular value_min value_max value_bins value_edges.now subtract n_states state_size members teams) pack.old }
 {
-    let set = PointSet {
-        n_points,
-        stride: capi_words::stride_from(stated, stride),
-    };
+    let set = set_from(positions, values, weights, n_points, stated, stride);
     let edges = capi_words::edges_from(irregular, min, max, n_bins);
     let value = capi_words::edges_from(value_irregular, value_min, value_max, value_bins);
     let kind = capi_words::kind_from(form, value);
@@ -223,10 +224,7 @@ pub extern "C" fn pairstat_points_auto(
         members,
         teams,
     };
-    capi_words::number_from(unstructured::points_auto(
-        positions,
-        values,
-        weights,
+    refusals::number_of(unstructured::points_auto(
         set,
         edges,
         list,
@@ -270,23 +268,31 @@ pub extern "C" fn pairstat_points_cross(
     teams: usize,
     pack: &mut [f64],
 ) -> u32
-    ensures value { result ≡ refusal (run_rules (points.cross_run (points_of (set_from a_points a_stated a_stride) a_positions.now a_values.now a_weights.now)
-        (points_of (set_from b_points b_stated b_stride) b_positions.now b_values.now b_weights.now) (edges_from irregular min max n_bins) list.now
-        (kind_from form (edges_from value_irregular value_min value_max value_bins)) value_edges.now (op_from subtract)
-        (shape_from n_states state_size members teams)) (length pack.old)) }
-    ensures pack_after { pack.new ≡ step (points.cross_run (points_of (set_from a_points a_stated a_stride) a_positions.now a_values.now a_weights.now)
-        (points_of (set_from b_points b_stated b_stride) b_positions.now b_values.now b_weights.now) (edges_from irregular min max n_bins) list.now
-        (kind_from form (edges_from value_irregular value_min value_max value_bins)) value_edges.now (op_from subtract)
-        (shape_from n_states state_size members teams)) pack.old }
+    ensures value { result ≡ refusal (run_rules (run_from (two_points (points_from a_points a_stated a_stride a_positions.now a_values.now a_weights.now)
+        (points_from b_points b_stated b_stride b_positions.now b_values.now b_weights.now))
+        irregular min max n_bins list.now
+        form value_irregular value_min value_max value_bins value_edges.now subtract n_states state_size members teams) (length pack.old)) }
+    ensures pack_after { pack.new ≡ step (run_from (two_points (points_from a_points a_stated a_stride a_positions.now a_values.now a_weights.now)
+        (points_from b_points b_stated b_stride b_positions.now b_values.now b_weights.now))
+        irregular min max n_bins list.now
+        form value_irregular value_min value_max value_bins value_edges.now subtract n_states state_size members teams) pack.old }
 {
-    let a = PointSet {
-        n_points: a_points,
-        stride: capi_words::stride_from(a_stated, a_stride),
-    };
-    let b = PointSet {
-        n_points: b_points,
-        stride: capi_words::stride_from(b_stated, b_stride),
-    };
+    let a = set_from(
+        a_positions,
+        a_values,
+        a_weights,
+        a_points,
+        a_stated,
+        a_stride,
+    );
+    let b = set_from(
+        b_positions,
+        b_values,
+        b_weights,
+        b_points,
+        b_stated,
+        b_stride,
+    );
     let edges = capi_words::edges_from(irregular, min, max, n_bins);
     let value = capi_words::edges_from(value_irregular, value_min, value_max, value_bins);
     let kind = capi_words::kind_from(form, value);
@@ -297,14 +303,8 @@ pub extern "C" fn pairstat_points_cross(
         members,
         teams,
     };
-    capi_words::number_from(unstructured::points_cross(
-        a_positions,
-        a_values,
-        a_weights,
+    refusals::number_of(unstructured::points_cross(
         a,
-        b_positions,
-        b_values,
-        b_weights,
         b,
         edges,
         list,
@@ -352,16 +352,30 @@ pub extern "C" fn pairstat_blocks_auto(
     teams: usize,
     pack: &mut [f64],
 ) -> u32
-    ensures value { result ≡ refusal (run_rules (blocks.auto_run (width_from width_z width_y width_x) (block_of (block_from a_nz a_ny a_nx a_sz a_sy a_sx a_gz a_gy a_gx) a0.now a1.now a2.now aw.now)
-        (edges_from irregular min max n_bins) list.now
-        (kind_from form (edges_from value_irregular value_min value_max value_bins)) value_edges.now (op_from subtract)
-        (shape_from n_states state_size members teams)) (length pack.old)) }
-    ensures pack_after { pack.new ≡ step (blocks.auto_run (width_from width_z width_y width_x) (block_of (block_from a_nz a_ny a_nx a_sz a_sy a_sx a_gz a_gy a_gx) a0.now a1.now a2.now aw.now)
-        (edges_from irregular min max n_bins) list.now
-        (kind_from form (edges_from value_irregular value_min value_max value_bins)) value_edges.now (op_from subtract)
-        (shape_from n_states state_size members teams)) pack.old }
+    ensures value { result ≡ refusal (run_rules (run_from (one_block (width_from width_z width_y width_x)
+        (block_from a_nz a_ny a_nx a_sz a_sy a_sx a_gz a_gy a_gx a0.now a1.now a2.now aw.now))
+        irregular min max n_bins list.now
+        form value_irregular value_min value_max value_bins value_edges.now subtract n_states state_size members teams) (length pack.old)) }
+    ensures pack_after { pack.new ≡ step (run_from (one_block (width_from width_z width_y width_x)
+        (block_from a_nz a_ny a_nx a_sz a_sy a_sx a_gz a_gy a_gx a0.now a1.now a2.now aw.now))
+        irregular min max n_bins list.now
+        form value_irregular value_min value_max value_bins value_edges.now subtract n_states state_size members teams) pack.old }
 {
-    let a = block_from(a_nz, a_ny, a_nx, a_sz, a_sy, a_sx, a_gz, a_gy, a_gx);
+    let a = Block {
+        comp0: a0,
+        comp1: a1,
+        comp2: a2,
+        weights: aw,
+        nz: a_nz,
+        ny: a_ny,
+        nx: a_nx,
+        sz: a_sz,
+        sy: a_sy,
+        sx: a_sx,
+        gz: a_gz,
+        gy: a_gy,
+        gx: a_gx,
+    };
     let width = CellWidth {
         z: width_z,
         y: width_y,
@@ -377,11 +391,7 @@ pub extern "C" fn pairstat_blocks_auto(
         members,
         teams,
     };
-    capi_words::number_from(twopoint_cartesian::blocks_auto(
-        a0,
-        a1,
-        a2,
-        aw,
+    refusals::number_of(twopoint_cartesian::blocks_auto(
         a,
         width,
         edges,
@@ -443,19 +453,47 @@ pub extern "C" fn pairstat_blocks_cross(
     teams: usize,
     pack: &mut [f64],
 ) -> u32
-    ensures value { result ≡ refusal (run_rules (blocks.cross_run (width_from width_z width_y width_x) (block_of (block_from a_nz a_ny a_nx a_sz a_sy a_sx a_gz a_gy a_gx) a0.now a1.now a2.now aw.now)
-        (block_of (block_from b_nz b_ny b_nx b_sz b_sy b_sx b_gz b_gy b_gx) b0.now b1.now b2.now bw.now)
-        (edges_from irregular min max n_bins) list.now
-        (kind_from form (edges_from value_irregular value_min value_max value_bins)) value_edges.now (op_from subtract)
-        (shape_from n_states state_size members teams)) (length pack.old)) }
-    ensures pack_after { pack.new ≡ step (blocks.cross_run (width_from width_z width_y width_x) (block_of (block_from a_nz a_ny a_nx a_sz a_sy a_sx a_gz a_gy a_gx) a0.now a1.now a2.now aw.now)
-        (block_of (block_from b_nz b_ny b_nx b_sz b_sy b_sx b_gz b_gy b_gx) b0.now b1.now b2.now bw.now)
-        (edges_from irregular min max n_bins) list.now
-        (kind_from form (edges_from value_irregular value_min value_max value_bins)) value_edges.now (op_from subtract)
-        (shape_from n_states state_size members teams)) pack.old }
+    ensures value { result ≡ refusal (run_rules (run_from (two_blocks (width_from width_z width_y width_x)
+        (block_from a_nz a_ny a_nx a_sz a_sy a_sx a_gz a_gy a_gx a0.now a1.now a2.now aw.now)
+        (block_from b_nz b_ny b_nx b_sz b_sy b_sx b_gz b_gy b_gx b0.now b1.now b2.now bw.now))
+        irregular min max n_bins list.now
+        form value_irregular value_min value_max value_bins value_edges.now subtract n_states state_size members teams) (length pack.old)) }
+    ensures pack_after { pack.new ≡ step (run_from (two_blocks (width_from width_z width_y width_x)
+        (block_from a_nz a_ny a_nx a_sz a_sy a_sx a_gz a_gy a_gx a0.now a1.now a2.now aw.now)
+        (block_from b_nz b_ny b_nx b_sz b_sy b_sx b_gz b_gy b_gx b0.now b1.now b2.now bw.now))
+        irregular min max n_bins list.now
+        form value_irregular value_min value_max value_bins value_edges.now subtract n_states state_size members teams) pack.old }
 {
-    let a = block_from(a_nz, a_ny, a_nx, a_sz, a_sy, a_sx, a_gz, a_gy, a_gx);
-    let b = block_from(b_nz, b_ny, b_nx, b_sz, b_sy, b_sx, b_gz, b_gy, b_gx);
+    let a = Block {
+        comp0: a0,
+        comp1: a1,
+        comp2: a2,
+        weights: aw,
+        nz: a_nz,
+        ny: a_ny,
+        nx: a_nx,
+        sz: a_sz,
+        sy: a_sy,
+        sx: a_sx,
+        gz: a_gz,
+        gy: a_gy,
+        gx: a_gx,
+    };
+    let b = Block {
+        comp0: b0,
+        comp1: b1,
+        comp2: b2,
+        weights: bw,
+        nz: b_nz,
+        ny: b_ny,
+        nx: b_nx,
+        sz: b_sz,
+        sy: b_sy,
+        sx: b_sx,
+        gz: b_gz,
+        gy: b_gy,
+        gx: b_gx,
+    };
     let width = CellWidth {
         z: width_z,
         y: width_y,
@@ -471,16 +509,8 @@ pub extern "C" fn pairstat_blocks_cross(
         members,
         teams,
     };
-    capi_words::number_from(twopoint_cartesian::blocks_cross(
-        a0,
-        a1,
-        a2,
-        aw,
+    refusals::number_of(twopoint_cartesian::blocks_cross(
         a,
-        b0,
-        b1,
-        b2,
-        bw,
         b,
         width,
         edges,

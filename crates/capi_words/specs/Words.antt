@@ -1,5 +1,5 @@
 -- A flat call's numbers: each stands for something, so that no call is without a meaning. An answer is a number, or three words.
-use Rattle.std.proofs.Math.Option.{Option, none, some}
+use Rattle.std.specs.Prelude.{Option, None, Some}
 use Rattle.std.specs.Prelude.{List, [], ◌∷◌, cond, ℕ, eqb, length, Float}
 use Rattle.state_refusals.specs.declared.StateKind.{StateKind}
 use Rattle.state_refusals.specs.declared.StateKind.TheVariants.{Mean, Histogram}
@@ -9,8 +9,6 @@ use Rattle.reducer.specs.declared.Edges.{Edges}
 use Rattle.reducer.specs.declared.Edges.TheVariants.{Regular, Irregular}
 use Rattle.reducer.specs.declared.Kind.{Kind}
 use Rattle.reducer.specs.declared.Kind.TheVariants.{Comp0Mean, ComponentSumMean, ComponentSumHistogram}
-use Rattle.unstructured_points.specs.declared.Stride.{Stride}
-use Rattle.unstructured_points.specs.declared.Stride.TheVariants.{Given, Omitted}
 
 -- 0: regular
 unfoldable pub edges_from : ℕ → Float → Float → ℕ → Edges
@@ -25,17 +23,12 @@ unfoldable pub op_from : ℕ → PairOperation
 op_from subtract = cond (eqb subtract 0) ElementwiseMultiply ElementwiseSub
 
 -- 0: left out
-unfoldable pub stride_from : ℕ → ℕ → Stride
-stride_from stated k = cond (eqb stated 0) Omitted (Given k)
+unfoldable pub stride_from : ℕ → ℕ → Option ℕ
+stride_from stated k = cond (eqb stated 0) None (Some k)
 
 -- 0: a mean
 unfoldable pub state_kind_from : ℕ → ℕ → StateKind
 state_kind_from histogram n = cond (eqb histogram 0) Mean (Histogram n)
-
--- the number that a call gives; 0 where it gives none
-abbrev pub or_zero : Option ℕ → ℕ
-or_zero none = 0
-or_zero (some n) = n
 
 -- the words, where there is room for them and no more
 unfoldable pub written : List ℕ → List ℕ → List ℕ
@@ -43,11 +36,11 @@ written words out = cond (eqb (length out) (length words)) words out
 
 -- the number, whether there is a bin, and the bin
 abbrev pub lookup_words : ℕ → Option (Option ℕ) → List ℕ
-lookup_words n none = n ∷ 0 ∷ 0 ∷ []
-lookup_words n (some none) = n ∷ 0 ∷ 0 ∷ []
-lookup_words n (some (some i)) = n ∷ 1 ∷ i ∷ []
+lookup_words n None = n ∷ 0 ∷ 0 ∷ []
+lookup_words n (Some None) = n ∷ 0 ∷ 0 ∷ []
+lookup_words n (Some (Some i)) = n ∷ 1 ∷ i ∷ []
 
 -- the number, and the bounds
 abbrev pub segment_words : ℕ → Option (ℕ × ℕ) → List ℕ
-segment_words n none = n ∷ 0 ∷ 0 ∷ []
-segment_words n (some b) = n ∷ b.0 ∷ b.1 ∷ []
+segment_words n None = n ∷ 0 ∷ 0 ∷ []
+segment_words n (Some b) = n ∷ b.0 ∷ b.1 ∷ []

@@ -1,41 +1,37 @@
-// What the numbers of a flat call stand for, and answers as numbers and words.
+// What the numbers of a flat call stand for, and answers as words.
 #![tactic(auto)]
 
 ghost use Rattle.std.specs.Prelude.{◌≡◌, [], ◌∷◌};
-ghost use Rattle.bin_lookups.specs.Answers.{lookup_number, lookup_result};
-ghost use Rattle.misc.specs.Segment.{segment_number, segment_bounds};
-ghost use Rattle.state.specs.Readings.{number_of};
-ghost use Rattle.capi_words.specs.Words.{edges_from, kind_from, op_from, stride_from, state_kind_from, or_zero, written, lookup_words, segment_words};
+ghost use Rattle.std.specs.Result.{result_ok};
+ghost use Rattle.refusals.specs.Numbers.{refusal_number, number_of};
+ghost use Rattle.capi_words.specs.Words.{edges_from, kind_from, op_from, stride_from, state_kind_from, written, lookup_words, segment_words};
 
-use bin_lookups::Lookup;
-use misc::Segment;
 use reducer::{Edges, Kind, PairOperation};
-use state::{Outcome, StateKind};
-use unstructured_points::Stride;
+use refusals::Refusal;
+use state_refusals::StateKind;
 
-// ---- what the numbers stand for
+// ---- what the numbers stand for; they are the C interface
 
 #[tactic(auto, unfolding(crate::specs::Words::edges_from))]
 pub fn edges_from(irregular: u64, min: f64, max: f64, n_bins: usize) -> Edges
     ensures { result ≡ edges_from irregular min max n_bins }
 {
     if irregular == 0 {
-        return Edges::Regular(min, max, n_bins);
+        Edges::Regular(min, max, n_bins)
+    } else {
+        Edges::Irregular
     }
-    Edges::Irregular
 }
 
 #[tactic(auto, unfolding(crate::specs::Words::kind_from))]
 pub fn kind_from(form: u64, edges: Edges) -> Kind
     ensures { result ≡ kind_from form edges }
 {
-    if form == 0 {
-        return Kind::Comp0Mean;
+    match form {
+        0 => Kind::Comp0Mean,
+        1 => Kind::ComponentSumMean,
+        _ => Kind::ComponentSumHistogram(edges),
     }
-    if form == 1 {
-        return Kind::ComponentSumMean;
-    }
-    Kind::ComponentSumHistogram(edges)
 }
 
 #[tactic(auto, unfolding(crate::specs::Words::op_from))]
@@ -43,19 +39,17 @@ pub fn op_from(subtract: u64) -> PairOperation
     ensures { result ≡ op_from subtract }
 {
     if subtract == 0 {
-        return PairOperation::ElementwiseMultiply;
+        PairOperation::ElementwiseMultiply
+    } else {
+        PairOperation::ElementwiseSub
     }
-    PairOperation::ElementwiseSub
 }
 
 #[tactic(auto, unfolding(crate::specs::Words::stride_from))]
-pub fn stride_from(stated: u64, stride: usize) -> Stride
+pub fn stride_from(stated: u64, stride: usize) -> Option<usize>
     ensures { result ≡ stride_from stated stride }
 {
-    if stated == 0 {
-        return Stride::Omitted;
-    }
-    Stride::Given(stride)
+    if stated == 0 { None } else { Some(stride) }
 }
 
 #[tactic(auto, unfolding(crate::specs::Words::state_kind_from))]
@@ -63,48 +57,58 @@ pub fn state_kind_from(histogram: u64, n_bins: usize) -> StateKind
     ensures { result ≡ state_kind_from histogram n_bins }
 {
     if histogram == 0 {
-        return StateKind::Mean;
+        StateKind::Mean
+    } else {
+        StateKind::Histogram(n_bins)
     }
-    StateKind::Histogram(n_bins)
 }
 
 // ---- answers
 
-// 0 where the call is done.
-pub fn number_from(answer: Outcome) -> u32
-    ensures { result ≡ or_zero (number_of answer) }
+fn refused(refusal: Refusal) -> [u64; 3]
+    ensures { result ≡ refusal_number refusal ∷ 0 ∷ 0 ∷ [] }
+{
+    [u64::from(u32::from(refusal)), 0, 0]
+}
+
+// The number, whether there is a bin, and the bin.
+pub fn lookup_words(answer: Result<Option<usize>, Refusal>) -> [u64; 3]
+    ensures { result ≡ lookup_words (number_of answer) (result_ok answer) }
 {
     match answer {
-        Outcome::Done => 0,
-        Outcome::Refused(number) => number,
+        Ok(Some(i)) => [0, 1, i as u64],
+        Ok(None) => [0, 0, 0],
+        Err(refusal) => refused(refusal),
     }
 }
 
-fn write_words(a: u64, b: u64, c: u64, out: &mut [u64])
-    ensures { out.new ≡ written (a ∷ b ∷ c ∷ []) out.old }
+// The number, and the bounds.
+pub fn segment_words(answer: Result<(usize, usize), Refusal>) -> [u64; 3]
+    ensures { result ≡ segment_words (number_of answer) (result_ok answer) }
 {
-    if out.len() == 3 {
-        out[0] = a;
-        out[1] = b;
-        out[2] = c;
+    match answer {
+        Ok((start, stop)) => [0, start as u64, stop as u64],
+        Err(why) => refused(why),
     }
 }
 
-pub fn write_lookup(answer: Lookup, out: &mut [u64])
-    ensures { out.new ≡ written (lookup_words (lookup_number answer) (lookup_result answer)) out.old }
+#[tactic(auto, unfolding(crate::specs::Words::written))]
+fn write_words(words: &[u64; 3], out: &mut [u64])
+    ensures { out.new ≡ written words.now out.old }
 {
-    match answer {
-        Lookup::At(i) => write_words(0, 1, i as u64, out),
-        Lookup::None => write_words(0, 0, 0, out),
-        Lookup::Refused(number) => write_words(number as u64, 0, 0, out),
+    if out.len() == words.len() {
+        out.copy_from_slice(words);
     }
 }
 
-pub fn write_segment(answer: Segment, out: &mut [u64])
-    ensures { out.new ≡ written (segment_words (segment_number answer) (segment_bounds answer)) out.old }
+pub fn write_lookup(answer: Result<Option<usize>, Refusal>, out: &mut [u64])
+    ensures { out.new ≡ written (lookup_words (number_of answer) (result_ok answer)) out.old }
 {
-    match answer {
-        Segment::Bounds(start, stop) => write_words(0, start as u64, stop as u64, out),
-        Segment::Refused(number) => write_words(number as u64, 0, 0, out),
-    }
+    write_words(&lookup_words(answer), out);
+}
+
+pub fn write_segment(answer: Result<(usize, usize), Refusal>, out: &mut [u64])
+    ensures { out.new ≡ written (segment_words (number_of answer) (result_ok answer)) out.old }
+{
+    write_words(&segment_words(answer), out);
 }

@@ -1,12 +1,10 @@
 -- What is put of a text, by the room: all of it, or nothing.
-use mathlib.Core.Path.{◌≡◌, ◌∙◌}
-use mathlib.Core.List.{List, []}
+use mathlib.Core.Path.{◌≡◌}
+use mathlib.Core.List.{List, [], ◌++◌}
 use Prim.Native.Nat.{ℕ, ◌*◌, ◌≤◌, ◌<◌}
-use lib.ListN.{length}
+use lib.ListN.{length, drop}
 use lib.Ieee.{Float}
 use borrow.Author.Tests.{lt-ltb, le-ltb, le-leb, lt-leb}
-use Rattle.record_bytes.specs.Stores.{stored}
-use Rattle.record_bytes.proofs.Stores.{stored_front}
 use Rattle.curve_text.specs.Text.{lines_text, refused_text, lines_fitting, refused_fitting, fitted}
 
 -- ---- the lines
@@ -28,23 +26,14 @@ module _ (n : ℕ) (pack : List Float) (room : ℕ) where
   lines_room h g k = rw (lt-ltb n 1000 h, le-leb (n * 2) (length pack) g, lt-leb (n * 38) room k)
 
 -- ---- the line of a refusal
-module _ (n room : ℕ) where
-  pub refused_fit : n < 1000 → 12 ≤ room → refused_text n ≡ refused_fitting n room
-  unfolding refused_fitting
-  refused_fit h g = rw (lt-ltb n 1000 h, le-leb 12 room g)
-
-  pub large_number : 1000 ≤ n → [] ≡ refused_fitting n room
-  unfolding refused_fitting
-  large_number h = rw (le-ltb n 1000 h)
-
-  pub refused_room : n < 1000 → room < 12 → [] ≡ refused_fitting n room
-  unfolding refused_fitting
-  refused_room h g = rw (lt-ltb n 1000 h, lt-leb 12 room g)
+pub refused_fit : (n room : ℕ) → n < 1000 → 12 ≤ room → refused_text n ≡ refused_fitting n room
+unfolding refused_fitting
+refused_fit n room h g = rw (lt-ltb n 1000 h, le-leb 12 room g)
 
 -- ---- a text in a lent slice
-pub fits : (t s r : List ℕ) → length t ≤ length s → r ≡ stored 0 t s → r ≡ fitted t s
+pub fits : (t s r : List ℕ) → length t ≤ length s → r ≡ t → r ++ drop (length t) s ≡ fitted t s
 unfolding fitted
-fits t s r h e = rw (le-leb (length t) (length s) h) (e ∙ stored_front t s h)
+fits t s r h e = rw (le-leb (length t) (length s) h, e)
 
 pub too_short : (t s : List ℕ) → length s < length t → s ≡ fitted t s
 unfolding fitted

@@ -1,5 +1,5 @@
 -- Finding the bin. Definitions only.
-use Rattle.std.proofs.Math.Option.{Option, none, some}
+use Rattle.std.specs.Prelude.{Option, None, Some}
 use Rattle.std.specs.Prelude.{List, cond, ◌||◌, ℕ, zero, suc, ◌-◌, ltb, length, pos, Float}
 use Rattle.std.specs.Float.{binary64}
 use Rattle.std.specs.Float.Ieee.{sub, div, lt, le, is_nan, of_int}
@@ -21,16 +21,16 @@ bin_size min max n = div binary64 (sub binary64 max min) (of_int binary64 (pos n
 
 -- Below min or at or above max: no bin. Else the quotient (value - min)/size cut to a whole number. It may reach n or more
 unfoldable pub regular_index : Float → Float → Float → Float → Option ℕ
-regular_index min max size x = cond (lt x min || le max x) none (some (as_usize (div binary64 (sub binary64 x min) size)))
+regular_index min max size x = cond (lt x min || le max x) None (Some (as_usize (div binary64 (sub binary64 x min) size)))
 
 -- of the first n edges, the last one that is not after x
 unfoldable pub last_edge : List Float → Float → ℕ → Option ℕ
-last_edge es x zero = none
-last_edge es x (suc k) = cond (not_after (at es k) x) (some k) (last_edge es x k)
+last_edge es x zero = None
+last_edge es x (suc k) = cond (not_after (at es k) x) (Some k) (last_edge es x k)
 
 -- The same end tests, then the last edge not after the value. Where every edge is after it, or it is NaN: no bin
 unfoldable pub irregular_index : List Float → Float → Option ℕ
-irregular_index es x = cond (is_nan x || lt x (at es 0) || le (at es (length es - 1)) x) none (last_edge es x (length es))
+irregular_index es x = cond (is_nan x || lt x (at es 0) || le (at es (length es - 1)) x) None (last_edge es x (length es))
 
 -- what a lookup returns
 unfoldable pub find : Edges → Float → Option ℕ
@@ -39,8 +39,8 @@ find (irregular es) x = irregular_index es x
 
 -- an index of n or more is dropped
 abbrev pub below : ℕ → Option ℕ → Option ℕ
-below n none = none
-below n (some i) = cond (ltb i n) (some i) none
+below n None = None
+below n (Some i) = cond (ltb i n) (Some i) None
 
 -- the bin that a run or a histogram takes, or none
 unfoldable pub bin_of : Edges → Float → Option ℕ

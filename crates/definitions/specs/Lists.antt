@@ -1,5 +1,5 @@
 -- Words about lists that the definitions share. Definitions only.
-use Rattle.std.proofs.Math.Option.{Option, none, some}
+use Rattle.std.specs.Prelude.{Option, None, Some}
 use Rattle.std.specs.Prelude.{List, [], ◌∷◌, ◌++◌, map, ℕ, zero, suc, ◌+◌, max, length, get_or, drop, ℤ, pos, ◌+ℤ◌, Float}
 use Rattle.std.specs.Float.{nan, binary64}
 use Rattle.std.specs.Float.Ieee.{add}
@@ -22,8 +22,8 @@ overwritten n f s = map f (upto n) ++ drop n s
 
 -- x with what is given added to it, if anything is
 abbrev pub add_opt : Option Float → Float → Float
-add_opt none x = x
-add_opt (some y) x = add binary64 x y
+add_opt None x = x
+add_opt (Some y) x = add binary64 x y
 
 module _ {A B : Type 0} where
   abbrev pub flat_map : (A → List B) → List A → List B

@@ -1,5 +1,5 @@
 -- Points: what a set of them is, and the squared distance of two. Definitions only.
-use Rattle.std.proofs.Math.Option.{Option, none, some}
+use Rattle.std.specs.Prelude.{Option, None, Some}
 use Rattle.std.specs.Prelude.{List, map, ℕ, ◌+◌, ◌*◌, Float}
 use Rattle.std.specs.Float.{binary64}
 use Rattle.std.specs.Float.Ieee.{add, sub, mul}
@@ -28,8 +28,8 @@ pub record UnstructuredPoints : Type 0 where
 
 -- a stride left out is the count
 abbrev pub stride_or : ℕ → Option ℕ → ℕ
-stride_or n none = n
-stride_or n (some k) = k
+stride_or n None = n
+stride_or n (Some k) = k
 
 abbrev pub stride : UnstructuredPoints → ℕ
 stride s = stride_or s.count s.stated

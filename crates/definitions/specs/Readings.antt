@@ -1,6 +1,6 @@
 -- The marked readings K1 to K12 as one claim, and what they speak of.
 use Rattle.std.specs.Prelude.{◌≡◌, List, [], ◌∷◌, map, true, false, cond, ℕ, ◌*◌, length, replicate, ℤ, pos, negsuc, Float}
-use Rattle.std.proofs.Math.Option.{none, some}
+use Rattle.std.specs.Prelude.{None, Some}
 use Rattle.std.specs.Float.{nan, binary64}
 use Rattle.std.specs.Float.Ieee.{of_int, of_bits, to_bits}
 use Rattle.definitions.specs.Lists.{upto, flat_map}
@@ -38,7 +38,7 @@ unit_widths = record { wz = int (pos 1); wy = int (pos 1); wx = int (pos 1) }
 
 -- one point whose numbers nobody reads
 unfoldable pub lone : UnstructuredPoints
-lone = record { count = 1; stated = none; positions = nan ∷ nan ∷ nan ∷ []; values = nan ∷ nan ∷ nan ∷ []; weights = nan ∷ [] }
+lone = record { count = 1; stated = None; positions = nan ∷ nan ∷ nan ∷ []; values = nan ∷ nan ∷ nan ∷ []; weights = nan ∷ [] }
 
 -- the offsets that auto takes, each with how many pairs it has
 unfoldable pub auto_offsets : CartesianBlock → List (Idx3DOffset × ℕ)
@@ -61,13 +61,13 @@ unfoldable pub k10_edges : List ℕ
 k10_edges = file_of (0 ∷ 25 ∷ 26 ∷ [])
 
 pub record MarkedReadings : Type 0 where
-  pub K1 : find (regular (int (pos 0)) (int (pos 1)) 3) (bits 0x3fef_ffff_ffff_ffff) ≡ some 3
-  pub K2 : (find (regular (int (pos 0)) (int (pos 1)) 4) (bits 0x3fd0_0000_0000_0000) ≡ some 1) × (find (regular (int (pos 0)) (int (pos 1)) 4) (int (pos 1)) ≡ none)
+  pub K1 : find (regular (int (pos 0)) (int (pos 1)) 3) (bits 0x3fef_ffff_ffff_ffff) ≡ Some 3
+  pub K2 : (find (regular (int (pos 0)) (int (pos 1)) 4) (bits 0x3fd0_0000_0000_0000) ≡ Some 1) × (find (regular (int (pos 0)) (int (pos 1)) 4) (int (pos 1)) ≡ None)
   pub K3 :
       map (λ x. find (irregular (int (pos 0) ∷ int (pos 25) ∷ int (pos 26) ∷ [])) (int (pos x))) (24 ∷ 25 ∷ 26 ∷ [])
-      ≡ some 0 ∷ some 1 ∷ none ∷ []
-  pub K4 : map (find (irregular (int (negsuc 0) ∷ int (pos 0) ∷ int (pos 1) ∷ []))) (zero_f true ∷ zero_f false ∷ []) ≡ some 0 ∷ some 1 ∷ []
-  pub K5 : find (irregular (int (pos 0) ∷ int (pos 1) ∷ [])) (zero_f true) ≡ none
+      ≡ Some 0 ∷ Some 1 ∷ None ∷ []
+  pub K4 : map (find (irregular (int (negsuc 0) ∷ int (pos 0) ∷ int (pos 1) ∷ []))) (zero_f true ∷ zero_f false ∷ []) ≡ Some 0 ∷ Some 1 ∷ []
+  pub K5 : find (irregular (int (pos 0) ∷ int (pos 1) ∷ [])) (zero_f true) ≡ None
   -- 22 also where 23 and 24 are broken too
   pub K6 :
       (refusal (run_rules (one_bin 1 (one_block unit_widths (box 1 1 1))) 2) ≡ 22)
@@ -81,7 +81,7 @@ pub record MarkedReadings : Type 0 where
       ≡ (offset (pos 0) (pos 0) (negsuc 0), 1) ∷ (offset (pos 0) (pos 0) (pos 0), 2) ∷ (offset (pos 0) (pos 0) (pos 1), 2) ∷ (offset (pos 0) (pos 0) (pos 2), 1) ∷ []
   pub K9 : map (segment 10 3) (upto 3) ≡ (0, 4) ∷ (4, 7) ∷ (7, 10) ∷ []
   pub K10 : curve_text k10_points k10_edges ≡ ascii "0 0000000000000000 0000000000000000\n1 4028000000000000 4000000000000000\n"
-  pub K11 : (find (regular (int (pos 0)) (int (pos 1)) 3) nan ≡ some 0) × (find (irregular (int (pos 0) ∷ int (pos 1) ∷ [])) nan ≡ none)
+  pub K11 : (find (regular (int (pos 0)) (int (pos 1)) 3) nan ≡ Some 0) × (find (irregular (int (pos 0) ∷ int (pos 1) ∷ [])) nan ≡ None)
   pub K12 : step (one_bin 1 (one_points lone)) (zero_f true ∷ zero_f true ∷ []) ≡ zero_f false ∷ zero_f false ∷ []
 
 -- Not among the marked: three squares that round to 1 in a block's order, and to the next number in the points' order

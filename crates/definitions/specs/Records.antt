@@ -1,5 +1,5 @@
 -- Record files, the entry, and the text that `curve` prints. Bytes are numbers below 256. Definitions only.
-use Rattle.std.proofs.Math.Option.{Option, none, some}
+use Rattle.std.specs.Prelude.{Option, None, Some}
 use Rattle.std.specs.Prelude.{List, [], ◌∷◌, ◌++◌, map, false, not, cond, ◌||◌, ℕ, zero, suc, ◌+◌, ◌*◌, ◌/◌, ◌%◌, ltb, eqb, length, get_or, replicate, Float}
 use Prim.Native.Char.{code}
 use Prim.Native.String.{String}
@@ -44,7 +44,7 @@ column b k = map (λ i. float_at b (i * point_bytes + k * 8)) (upto (length b / 
 abbrev pub record_points : List ℕ → UnstructuredPoints
 record_points b = record {
   count = length b / point_bytes;
-  stated = some (length b / point_bytes);
+  stated = Some (length b / point_bytes);
   positions = column b 0 ++ (column b 1 ++ column b 2);
   values = column b 3 ++ (column b 4 ++ column b 5);
   weights = column b 6;
@@ -141,6 +141,6 @@ curve_text points edges = printed (refusal (curve_rules points edges)) (curve_li
 
 -- 28 for a file that can't be read, and then as the entry does
 abbrev pub program_text : Option (List ℕ) → Option (List ℕ) → List ℕ
-program_text none edges = refused_line 28
-program_text (some points) none = refused_line 28
-program_text (some points) (some edges) = curve_text points edges
+program_text None edges = refused_line 28
+program_text (Some points) None = refused_line 28
+program_text (Some points) (Some edges) = curve_text points edges

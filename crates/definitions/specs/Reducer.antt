@@ -1,5 +1,5 @@
 -- A pair, its datum, and what the datum adds to a state. Definitions only.
-use Rattle.std.proofs.Math.Option.{Option, none, some}
+use Rattle.std.specs.Prelude.{Option, None, Some}
 use Rattle.std.specs.Prelude.{cond, ℕ, zero, suc, eqb, Float}
 use Rattle.std.specs.Float.{binary64}
 use Rattle.std.specs.Float.Ieee.{add, sub, mul}
@@ -60,20 +60,20 @@ value (component_sum_histogram e) d = component_sum d
 -- ---- what is added to number e of a state
 -- total + value·w; weight + w
 abbrev pub mean_term : ℕ → Float → Float → Option Float
-mean_term zero v w = some (mul binary64 v w)
-mean_term (suc zero) v w = some w
-mean_term (suc (suc e)) v w = none
+mean_term zero v w = Some (mul binary64 v w)
+mean_term (suc zero) v w = Some w
+mean_term (suc (suc e)) v w = None
 
 -- what is given goes to bin s alone
 abbrev pub in_bin : Option ℕ → ℕ → Option Float → Option Float
-in_bin none s o = none
-in_bin (some b) s o = cond (eqb b s) o none
+in_bin None s o = None
+in_bin (Some b) s o = cond (eqb b s) o None
 
 -- a histogram: w to the value's bin
 abbrev pub term : Kind → ℕ → Float → Float → Option Float
 term comp0_mean e v w = mean_term e v w
 term component_sum_mean e v w = mean_term e v w
-term (component_sum_histogram h) e v w = in_bin (bin_of h v) e (some w)
+term (component_sum_histogram h) e v w = in_bin (bin_of h v) e (Some w)
 
 abbrev pub datum_term : Kind → ℕ → Datum → Option Float
 datum_term k e d = term k e (value k d) d.weight
@@ -84,10 +84,10 @@ pub data Pair : Type 0 where
   dropped : Pair
 
 abbrev pub pair_in : Option ℕ → Datum → Pair
-pair_in none d = dropped
-pair_in (some b) d = kept b d
+pair_in None d = dropped
+pair_in (Some b) d = kept b d
 
 -- what a pair adds to number e of state s
 abbrev pub pair_term : Kind → ℕ → ℕ → Pair → Option Float
-pair_term k s e (kept b d) = in_bin (some b) s (datum_term k e d)
-pair_term k s e dropped = none
+pair_term k s e (kept b d) = in_bin (Some b) s (datum_term k e d)
+pair_term k s e dropped = None

@@ -1,5 +1,4 @@
 -- Operations and where each stops: every rule and limit with its number, a table for each operation, in the stated order. Definitions only.
-use Rattle.std.proofs.Math.Option.{Option, none, some}
 use Rattle.std.specs.Prelude.{List, [], ◌∷◌, ◌++◌, Bool, true, false, not, cond, ◌&&◌, ◌||◌, ℕ, ◌*◌, ◌/◌, ◌%◌, leb, ltb, eqb, length, ℤ, nat_abs, Float}
 use Rattle.std.specs.Int.Signed.{lt_z}
 use Rattle.std.specs.Float.{binary64}
@@ -23,10 +22,6 @@ rule n b = record { number = n; broken = b }
 abbrev pub refusal : List Rule → ℕ
 refusal [] = 0
 refusal (r ∷ l) = cond r.broken r.number (refusal l)
-
--- the number that a call gives, if it gives one
-abbrev pub met : ℕ → Option ℕ
-met n = cond (eqb n 0) none (some n)
 
 -- a where no rule is broken, else b: what a call leaves
 abbrev pub if_accepted : {A : Type 0} → List Rule → A → A → A

@@ -1,5 +1,5 @@
 -- One run, read downward. `drive_reduce` of the Rust is the reference. Definitions only; which runs are accepted is Rules'.
-use Rattle.std.proofs.Math.Option.{Option, none, some}
+use Rattle.std.specs.Prelude.{Option, None, Some}
 use Rattle.std.specs.Prelude.{List, false, cond, ℕ, ◌+◌, ◌*◌, ◌/◌, ◌%◌, Float}
 use Rattle.std.specs.Float.{binary64}
 use Rattle.std.specs.Float.Ieee.{add}
@@ -59,13 +59,13 @@ module _ (r : Run) (p : ℕ) where
   -- each offset sums its cells in a fresh state, merged once into its bin
   abbrev pub offset_at : CellWidth → CartesianBlock → CartesianBlock → Idx3DOffset → Option Float
   offset_at w a b d =
-      in_bin (bin_of r.edges (distance_squared w a b d)) (state_at (bins r.edges) p) (some (fold_at (cells_at a b) (zero_f false) (cell_pairs a b d)))
+      in_bin (bin_of r.edges (distance_squared w a b d)) (state_at (bins r.edges) p) (Some (fold_at (cells_at a b) (zero_f false) (cell_pairs a b d)))
 
   -- the scratch pack, from zeros: cross takes all offsets, auto those after (0, 0, 0)
   unfoldable pub scratch_of : Sets → Float
   scratch_of (one_points s) = fold_at pair_at (zero_f false) (later_pairs (points s))
   scratch_of (two_points s t) = fold_at pair_at (zero_f false) (all_pairs (points s) (points t))
-  scratch_of (one_block w a) = fold_at (λ d. cond (is_after d) (offset_at w a a d) none) (zero_f false) (offsets_of a a)
+  scratch_of (one_block w a) = fold_at (λ d. cond (is_after d) (offset_at w a a d) None) (zero_f false) (offsets_of a a)
   scratch_of (two_blocks w a b) = fold_at (offset_at w a b) (zero_f false) (offsets_of a b)
 
   unfoldable pub scratch : Float

@@ -1,5 +1,5 @@
 -- The state pack by itself: reset, merge, consolidation, result. Definitions only; which calls are accepted is Rules'.
-use Rattle.std.proofs.Math.Option.{some}
+use Rattle.std.specs.Prelude.{Some}
 use Rattle.std.specs.Prelude.{List, false, ℕ, zero, suc, ◌+◌, ◌*◌, Float}
 use Rattle.std.specs.Float.{binary64}
 use Rattle.std.specs.Float.Ieee.{add, div}
@@ -20,7 +20,7 @@ merge_packs n s t = overwritten n (λ p. add binary64 (at s p) (at t p)) s
 -- packs of one shape end to end in one slice: packs 1, 2, .. are added in turn to pack 0, and stay. With none or one, nothing changes
 abbrev pub consolidate_packs : ℕ → ℕ → List Float → List Float
 consolidate_packs zero n s = s
-consolidate_packs (suc others) n s = overwritten n (λ p. fold_at (λ i. some (at s (i * n + p))) (at s p) (range 1 others)) s
+consolidate_packs (suc others) n s = overwritten n (λ p. fold_at (λ i. Some (at s (i * n + p))) (at s p) (range 1 others)) s
 
 -- number e of the result of state i in a pack of `states` states: total/weight and weight; a histogram is copied
 abbrev pub mean_number : ℕ → ℕ → List Float → ℕ → Float

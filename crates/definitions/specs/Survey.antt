@@ -1,5 +1,5 @@
 -- Whole-number surveys, the list of runs, and the book of demand 3. Definitions only.
-use Rattle.std.proofs.Math.Option.{Option, none, some}
+use Rattle.std.specs.Prelude.{Option, None, Some}
 use Rattle.std.specs.Prelude.{List, [], ◌∷◌, ◌++◌, map, Bool, false, not, cond, ◌&&◌, ◌||◌, ℕ, zero, suc, ◌+◌, ◌*◌, ◌^◌, ◌≤◌, ◌<◌, max, T, ltb, eqb, length, ℤ, pos, nat_abs, ◌+ℤ◌, ◌-ℤ◌, ◌*ℤ◌, Float}
 use Rattle.std.specs.Float.{binary64}
 use Rattle.std.specs.Float.Ieee.{eq, of_int, fits}
@@ -83,8 +83,8 @@ abbrev pub when_z : Bool → ℤ → ℤ
 when_z b z = cond b z (pos 0)
 
 abbrev pub in_bin_z : Option ℕ → ℕ → ℤ → ℤ
-in_bin_z none s z = pos 0
-in_bin_z (some b) s z = when_z (eqb b s) z
+in_bin_z None s z = pos 0
+in_bin_z (Some b) s z = when_z (eqb b s) z
 
 -- a mean adds value times weight to number 0 of its state, and weight to number 1
 abbrev pub mean_term_z : ℕ → ℤ → ℤ → ℤ

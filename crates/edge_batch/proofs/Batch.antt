@@ -1,6 +1,6 @@
 -- What a batch's lookup leaves, and the edges' own bins.
 use mathlib.Core.Path.{◌≡◌, refl, sym, ap, subst, ◌∙◌}
-use mathlib.Core.Option.{Option, none, some}
+use Rattle.std.specs.Prelude.{Option, None, Some}
 use mathlib.Core.Bool.{Bool, true, false, cond, not, ◌||◌}
 use mathlib.Core.List.{List, [], ◌∷◌, map}
 use Prim.Native.Nat.{ℕ, zero, suc, ◌+◌, ◌-◌, ◌*◌, ◌/◌, ◌%◌, ◌^◌, ◌<◌, ◌≤◌}
@@ -128,15 +128,15 @@ module _ (es : List Float) (hints : List ℕ) (table : Table) where
       past_le true = omega arith
       past_le false = omega arith
 
-      flag_none : flag_of table.first table.last x ≡ 0 → none ≡ built_bin Irregular es x
+      flag_none : flag_of table.first table.last x ≡ 0 → None ≡ built_bin Irregular es x
       flag_none = go (lt x table.first) (le table.last x) refl refl
         where
-          go : (a b : Bool) → lt x table.first ≡ a → le table.last x ≡ b → (1 - bit a) * (1 - bit b) ≡ 0 → none ≡ built_bin Irregular es x
+          go : (a b : Bool) → lt x table.first ≡ a → le table.last x ≡ b → (1 - bit a) * (1 - bit b) ≡ 0 → None ≡ built_bin Irregular es x
           go true b e g k = bin_low es table.first table.last x Irregular t.ends e
           go false true e g k = bin_high es table.first table.last x Irregular t.ends g
           go false false e g k = absurd (omega (arith, k))
 
-      past_none : (inside : Bool) → past_end inside table x ≡ 1 → none ≡ built_bin Irregular es x
+      past_none : (inside : Bool) → past_end inside table x ≡ 1 → None ≡ built_bin Irregular es x
       unfolding past_end
       past_none true h = absurd (omega (arith, h))
       past_none false h = flag_none (omega (arith, h))
@@ -208,7 +208,7 @@ pub index_number : (edges : BuiltEdges) (es : List Float) (x : Float) → number
 unfolding number_for is_past definitions.regular_index
 index_number (Regular e) es x = go (lt x e.min || le e.max x)
   where
-    go : (b : Bool) → cond b 4096 (as_usize (quotient e x)) ≡ number_or (cond b none (some (as_usize (quotient e x))))
+    go : (b : Bool) → cond b 4096 (as_usize (quotient e x)) ≡ number_or (cond b None (Some (as_usize (quotient e x))))
     go false = refl
     go true = refl
 index_number Irregular es x = refl
@@ -220,7 +220,7 @@ index_bin Irregular es x = below_again (length es - 1) (built_find Irregular es 
 
 -- of a value that is past no end
 pub inside_bin : (edges : BuiltEdges) (es : List Float) (table : Table) → Tabled edges es table → (x : Float) → lt x table.first ≡ false → le table.last x ≡ false
-    → below (built_bins edges (length es)) (some (number_in true edges es x)) ≡ built_bin edges es x
+    → below (built_bins edges (length es)) (Some (number_in true edges es x)) ≡ built_bin edges es x
 unfolding number_for is_past definitions.regular_index consume.built_bin
 inside_bin (Regular e) es table t x a b =
     let c : lt x e.min ≡ false = ap (lt x) (sym t.ends.0) ∙ a in
@@ -228,6 +228,6 @@ inside_bin (Regular e) es table t x a b =
     sym (rw (c, d))
 inside_bin Irregular es table t x a b = go (built_bin Irregular es x) refl
   where
-    go : (o : Option ℕ) → built_bin Irregular es x ≡ o → below (length es - 1) (some (number_or o)) ≡ o
-    go none e = rw (le-ltb 4096 (length es - 1) (omega (arith, t.usable.few)))
-    go (some i) e = sym (ap (below (length es - 1)) e) ∙ below_again (length es - 1) (built_find Irregular es x) ∙ e
+    go : (o : Option ℕ) → built_bin Irregular es x ≡ o → below (length es - 1) (Some (number_or o)) ≡ o
+    go None e = rw (le-ltb 4096 (length es - 1) (omega (arith, t.usable.few)))
+    go (Some i) e = sym (ap (below (length es - 1)) e) ∙ below_again (length es - 1) (built_find Irregular es x) ∙ e

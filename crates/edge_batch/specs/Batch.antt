@@ -1,5 +1,5 @@
 -- Lookups of a batch of values: what the functions leave for any hints and table, also ones of other edges.
-use Rattle.std.proofs.Math.Option.{Option, none, some}
+use Rattle.std.specs.Prelude.{Option, None, Some}
 use Rattle.std.specs.Prelude.{List, [], ◌∷◌, map, Bool, cond, not, ◌&&◌, ◌||◌, ℕ, ◌-◌, ◌/◌, ◌%◌, ◌^◌, ◌<◌, ◌≤◌, ltb, eqb, length, get_or, pos, Float}
 use Rattle.std.specs.Float.{binary64}
 use Rattle.std.specs.Float.Ieee.{add, sub, div, lt, le, of_int, of_bits, to_bits}
@@ -13,8 +13,8 @@ use Rattle.edge_table.specs.Table.{flag_of, located_bin, place_of, sure_at}
 
 -- the bin, or a number past every bin
 abbrev pub number_or : Option ℕ → ℕ
-number_or none = 4096
-number_or (some b) = b
+number_or None = 4096
+number_or (Some b) = b
 
 -- ---- regular edges: the quotient's whole number
 abbrev pub quotient : RegularBinEdges → Float → Float

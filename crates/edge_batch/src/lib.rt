@@ -2,21 +2,17 @@
 #![tactic(auto)]
 
 ghost use Rattle.std.specs.Prelude.{◌≡◌, map, ◌<◌, length};
-ghost use Rattle.bins.specs.Answers.{index_of};
 ghost use Rattle.edge_table.specs.Table.{place_of, sure_at};
 ghost use Rattle.edge_batch.specs.Batch.{number_or, guess_of, is_past, number_for, sure_cut, sure_number, AtMost, each, sure, settled, settled_or, found_of};
 
-use bins::{BinIndex, RegularBinEdges};
+use bins::RegularBinEdges;
 use edge_table::Table;
 use reducer::BuiltEdges;
 
-fn number_of(bin: BinIndex) -> usize
-    ensures { result ≡ number_or (index_of bin) }
+fn number_of(bin: Option<usize>) -> usize
+    ensures { result ≡ number_or bin }
 {
-    match bin {
-        BinIndex::At(b) => b,
-        BinIndex::None => 4096,
-    }
+    bin.unwrap_or(4096)
 }
 
 // ---- irregular edges, by hints
@@ -26,25 +22,21 @@ fn places_of(inside: bool, table: Table, x: &[f64], found: &mut [usize])
     requires { length found.old ≡ length x.now }
     ensures { found.new ≡ map (place_of inside table) x.now }
 {
-    let mut q = 0;
-    while q < x.len() {
+    for q in 0..x.len() {
         found[q] = edge_table::place_of(inside, table, x[q]);
-        q += 1;
     }
 }
 
-// found holds the places. No call in the loop, so that all it reads stays in registers. What it returns is at least each number.
+// found holds the places. What it returns is at least each number.
 fn sure_bins(list: &[f64], hints: &[u8], x: &[f64], found: &mut [usize]) -> usize
     requires { length found.old ≡ length x.now }
     ensures { (found.new ≡ each (sure_at list.now hints.now) x.now found.old) × AtMost result found.new }
 {
     let mut all = 0;
-    let mut q = 0;
-    while q < x.len() {
+    for q in 0..x.len() {
         let bin = edge_table::sure_at(list, hints, x[q], found[q]);
         found[q] = bin;
         all = all | bin;
-        q += 1;
     }
     all
 }
@@ -111,12 +103,10 @@ fn sure_numbers(inside: bool, e: RegularBinEdges, x: &[f64], found: &mut [usize]
     ensures { (found.new ≡ map (sure_number inside e) x.now) × AtMost result found.new }
 {
     let mut all = 0;
-    let mut q = 0;
-    while q < x.len() {
+    for q in 0..x.len() {
         let number = sure_number(inside, e, x[q]);
         found[q] = number;
         all = all | number;
-        q += 1;
     }
     all
 }
@@ -145,7 +135,7 @@ fn sure_of(
     }
 }
 
-// A value's number by the edges alone. The search and the located bin have a caller here besides the lookup of one value: so the compiler keeps that short, and its answer in registers.
+// A value's number by the edges alone. The search and the located bin are called here as well as in the lookup of one value: called there alone they would be inlined, and runs of few points take twice as long.
 fn settled_number(inside: bool, edges: BuiltEdges, list: &[f64], table: Table, x: f64) -> usize
     ensures { result ≡ settled inside edges list.now table x }
 {
@@ -176,12 +166,10 @@ fn settle(
     requires { length found.old ≡ length x.now }
     ensures { found.new ≡ each (settled_or inside edges list.now table) x.now found.old }
 {
-    let mut q = 0;
-    while q < x.len() {
+    for q in 0..x.len() {
         if found[q] >= 8192 {
             found[q] = settled_number(inside, edges, list, table, x[q]);
         }
-        q += 1;
     }
 }
 

@@ -1,7 +1,7 @@
 -- A table of accepted edges finds the edges' own bins.
 use mathlib.Core.Path.{◌≡◌, refl, sym, ap, subst, ◌∙◌}
 use mathlib.Core.Logic.{⊎_elim}
-use mathlib.Core.Option.{Option, none, some}
+use Rattle.std.specs.Prelude.{Option, None, Some}
 use mathlib.Core.Bool.{Bool, true, false, cond, not, ◌&&◌, ◌||◌, true≢false}
 use mathlib.Core.List.{List, ◌∷◌}
 use Prim.Native.Nat.{ℕ, ◌+◌, ◌-◌, ◌<◌, ◌≤◌}
@@ -37,24 +37,24 @@ use Rattle.edge_table.specs.Tabled.{Searchable, Usable, EndsOf, Tabled, UsableVa
 use Rattle.edge_table.proofs.Order.{lt_self, lt_finite, eq_finite, le_lt}
 
 -- ---- a value outside the ends has no bin
-low_none : (a b c : Bool) (o : Option ℕ) → b ≡ true → none ≡ cond (a || b || c) none o
+low_none : (a b c : Bool) (o : Option ℕ) → b ≡ true → None ≡ cond (a || b || c) None o
 low_none true b c o h = refl
 low_none false true c o h = refl
 low_none false false c o h = absurd (true≢false (sym h))
 
-high_none : (a b c : Bool) (o : Option ℕ) → c ≡ true → none ≡ cond (a || b || c) none o
+high_none : (a b c : Bool) (o : Option ℕ) → c ≡ true → None ≡ cond (a || b || c) None o
 high_none true b c o h = refl
 high_none false true c o h = refl
 high_none false false true o h = refl
 high_none false false false o h = absurd (true≢false (sym h))
 
 module _ (es : List Float) (first last x : Float) where
-  pub bin_low : (edges : BuiltEdges) → EndsOf edges es first last → lt x first ≡ true → none ≡ built_bin edges es x
+  pub bin_low : (edges : BuiltEdges) → EndsOf edges es first last → lt x first ≡ true → None ≡ built_bin edges es x
   unfolding built_bin regular_index irregular_index
   bin_low (Regular e) ends h = ap (below e.n_bins) (low_none false (lt x e.min) (le e.max x) _ (ap (lt x) (sym ends.0) ∙ h))
   bin_low Irregular ends h = ap (below (length es - 1)) (low_none (is_nan x) (lt x (at es 0)) (le (at es (length es - 1)) x) _ (ap (lt x) (sym ends.0) ∙ h))
 
-  pub bin_high : (edges : BuiltEdges) → EndsOf edges es first last → le last x ≡ true → none ≡ built_bin edges es x
+  pub bin_high : (edges : BuiltEdges) → EndsOf edges es first last → le last x ≡ true → None ≡ built_bin edges es x
   unfolding built_bin regular_index irregular_index
   bin_high (Regular e) ends h = ap (below e.n_bins) (high_none false (lt x e.min) (le e.max x) _ (ap (λ (y : Float). le y x) (sym ends.1) ∙ h))
   bin_high Irregular ends h = ap (below (length es - 1)) (high_none (is_nan x) (lt x (at es 0)) (le (at es (length es - 1)) x) _ (ap (λ (y : Float). le y x) (sym ends.1) ∙ h))
@@ -79,17 +79,17 @@ module _ (es : List Float) (u : Searchable es) (x : Float) (f : fits binary64 x 
       let s = sorted es u.held u.finite u.increasing (g + 1) i h m in
       key_order (at es i) x (u.held i) (subst T (sym f) tt) ∙ lt-leb (order_key (at es i)) (order_key x) (omega arith)
 
-  found_edge : some g ≡ last_edge es x (length es)
+  found_edge : Some g ≡ last_edge es x (length es)
   found_edge =
       let e : g ≡ g + 1 - 1 = omega arith in
-      ap some e ∙ halves_at es x (g + 1) (g + 1) (le_refl (g + 1)) (le_refl (g + 1)) (omega arith) above_all below_all (λ z. absurd (omega (arith, z)))
+      ap Some e ∙ halves_at es x (g + 1) (g + 1) (le_refl (g + 1)) (le_refl (g + 1)) (omega arith) above_all below_all (λ z. absurd (omega (arith, z)))
 
-  keyed_bin : outside es x ≡ false → some g ≡ built_bin Irregular es x
+  keyed_bin : outside es x ≡ false → Some g ≡ built_bin Irregular es x
   unfolding built_bin irregular_index
   keyed_bin v = rw (v, ← found_edge, lt-ltb g (length es - 1) within)
 
 -- a bin that was tested, or what follows
-pub tested : (t : Bool) (g : ℕ) (o b : Option ℕ) → (t ≡ true → some g ≡ b) → o ≡ b → cond t (some g) o ≡ b
+pub tested : (t : Bool) (g : ℕ) (o b : Option ℕ) → (t ≡ true → Some g ≡ b) → o ≡ b → cond t (Some g) o ≡ b
 tested true g o b h e = h refl
 tested false g o b h e = e
 
@@ -97,7 +97,7 @@ not_true : (a : Bool) → not a ≡ true → a ≡ false
 not_true false h = refl
 not_true true h = absurd (true≢false (sym h))
 
-pub none_outside : (es : List Float) (x : Float) → outside es x ≡ true → none ≡ built_bin Irregular es x
+pub none_outside : (es : List Float) (x : Float) → outside es x ≡ true → None ≡ built_bin Irregular es x
 unfolding built_bin irregular_index
 none_outside es x v = rw v
 
@@ -157,7 +157,7 @@ module _ (es : List Float) (u : Searchable es) (x : Float) (f : fits binary64 x 
           (m, key_equal (at es g) x (u.held g) t a m k z)
 
   -- so it is inside the ends
-  pub enclosed_bin : (g : ℕ) → nonzero x ≡ true → enclosed es x g ≡ true → some g ≡ built_bin Irregular es x
+  pub enclosed_bin : (g : ℕ) → nonzero x ≡ true → enclosed es x g ≡ true → Some g ≡ built_bin Irregular es x
   unfolding enclosed
   enclosed_bin g z c =
       let p = and-true (ltb g (length es - 1)) _ c in
@@ -168,7 +168,7 @@ module _ (es : List Float) (u : Searchable es) (x : Float) (f : fits binary64 x 
       let o : outside es x ≡ false = rw (finite_number x m.0, above_first g w m.1 m.0, below_last g w q.1 m.0) in
       keyed_bin es u x f g w m.1 (key_less x (at es (g + 1)) (subst T (sym f) tt) (u.held (g + 1)) m.0 b q.1) o
 
-  pub shown_bin : (g : ℕ) → shown es x g ≡ true → some g ≡ built_bin Irregular es x
+  pub shown_bin : (g : ℕ) → shown es x g ≡ true → Some g ≡ built_bin Irregular es x
   unfolding shown
   shown_bin g c =
       let p = and-true (nonzero x) (enclosed es x g) c in
@@ -176,7 +176,7 @@ module _ (es : List Float) (u : Searchable es) (x : Float) (f : fits binary64 x 
 
 -- ---- the search by quarters: a number is not outside the ends
 module _ (es : List Float) (u : Searchable es) (x : Float) (f : fits binary64 x ≡ true) (inside : is_nan x ≡ false → outside es x ≡ false) where
-  pub held_bin : (g : ℕ) → holds es x g ≡ true → some g ≡ built_bin Irregular es x
+  pub held_bin : (g : ℕ) → holds es x g ≡ true → Some g ≡ built_bin Irregular es x
   unfolding holds
   held_bin g c =
       let p = and-true (not (is_nan x) && ltb g (length es - 1) && leb (order_key (at es g)) (order_key x)) (ltb (order_key x) (order_key (at es (g + 1)))) c in
@@ -194,7 +194,7 @@ module _ (es : List Float) (x : Float) (f : fits binary64 x ≡ true) (table : T
   unfolding edge_bin outside_of
   edge_found t = rw (t.ends.0, t.ends.1) (go (outside es x) refl)
     where
-      go : (b : Bool) → outside es x ≡ b → cond b none (located_bin es x) ≡ built_bin Irregular es x
+      go : (b : Bool) → outside es x ≡ b → cond b None (located_bin es x) ≡ built_bin Irregular es x
       go true v = none_outside es x v
       go false v = located_found es t.usable x f (λ n. v)
 

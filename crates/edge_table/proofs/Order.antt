@@ -130,8 +130,8 @@ le_lt (fin s m e) (fin t n d) (fin u k f) p q r h l = go s t u h l
     K : ℕ
     K = k * up f
 
-    some : 0 < M * down f + K * down e → ltb 0 (M * down f + K * down e) ≡ true
-    some = lt-ltb 0 (M * down f + K * down e)
+    Some : 0 < M * down f + K * down e → ltb 0 (M * down f + K * down e) ≡ true
+    Some = lt-ltb 0 (M * down f + K * down e)
 
     third : 0 < K * down d → 0 < K * down e
     third = other_pos K (down d) (down e) (down_pos e)
@@ -141,14 +141,14 @@ le_lt (fin s m e) (fin t n d) (fin u k f) p q r h l = go s t u h l
     go false false true h l = absurd (true≢false (sym l))
     go true false true h l = absurd (true≢false (sym l))
     go true true true h l = lt-ltb _ _ (fall M N K (down e) (down d) (down f) (down_pos e) (le_minus (M * down d) (N * down e) h) (ltb-true _ _ l))
-    go true false false h l = some (omega (arith, third (omega (arith, ltb-true (N * down f) (K * down d) l))))
+    go true false false h l = Some (omega (arith, third (omega (arith, ltb-true (N * down f) (K * down d) l))))
     go true true false h l = side (ltb 0 (K * down d)) refl
       where
         side : (b : Bool) → ltb 0 (K * down d) ≡ b → ltb 0 (M * down f + K * down e) ≡ true
-        side true c = some (omega (arith, third (ltb-true 0 (K * down d) c)))
+        side true c = Some (omega (arith, third (ltb-true 0 (K * down d) c)))
         side false c =
             let v = other_pos N (down f) (down e) (down_pos e) (omega (arith, ltb-true 0 (N * down f + K * down d) l, ltb-false 0 (K * down d) c)) in
-            some (omega (arith, other_pos M (down d) (down f) (down_pos f) (omega (arith, v, le_minus (M * down d) (N * down e) h))))
+            Some (omega (arith, other_pos M (down d) (down f) (down_pos f) (omega (arith, v, le_minus (M * down d) (N * down e) h))))
     go false true u h l = zeros u l (le_zeros (M * down d) (N * down e) h)
       where
         -- no product with another denominator is above 0

@@ -1,6 +1,6 @@
 -- Each way through the tests of a bin, the search and a hint's trial, and the definition that its answer meets.
 use mathlib.Core.Path.{◌≡◌, refl, sym, ◌∙◌}
-use mathlib.Core.Option.{Option, some}
+use Rattle.std.specs.Prelude.{Option, Some}
 use mathlib.Core.Bool.{Bool, true, false}
 use mathlib.Core.List.{List}
 use Prim.Native.Nat.{ℕ, ◌+◌, ◌-◌, ◌*◌, ◌/◌, ◌^◌, ◌<◌, ◌≤◌}
@@ -82,12 +82,12 @@ module _ (list : List Float) (x : Float) (h : ℕ) where
 
 -- ---- one value; g is the answer of `locate`, s of `is_shown`, t of `is_held`
 module _ (list : List Float) (x : Float) (g : ℕ) (e : g ≡ located list x) (s : Bool) (q : s ≡ shown list x g) where
-  pub located_shown : s ≡ true → some g ≡ located_bin list x
+  pub located_shown : s ≡ true → Some g ≡ located_bin list x
   unfolding located_bin
   located_shown h = rw (← e, ← q, h)
 
   module _ (a : s ≡ false) (t : Bool) (k : t ≡ holds list x g) where
-    pub located_held : t ≡ true → some g ≡ located_bin list x
+    pub located_held : t ≡ true → Some g ≡ located_bin list x
     unfolding located_bin
     located_held h = rw (← e, ← q, a, ← k, h)
 

@@ -1,9 +1,9 @@
 -- Each way through the code, and the definition that its answer meets.
 use mathlib.Core.Path.{◌≡◌, refl, ap, ◌∙◌}
-use mathlib.Core.Option.{Option, none}
+use Rattle.std.specs.Prelude.{Option, None}
 use mathlib.Core.Bool.{Bool, true, false, cond}
 use mathlib.Core.List.{List}
-use Prim.Native.Nat.{ℕ, suc, ◌+◌, ◌-◌, ◌*◌, ◌/◌, ◌%◌, ◌^◌, ◌<◌, ◌≤◌, zero-le}
+use Prim.Native.Nat.{ℕ, suc, ◌+◌, ◌-◌, ◌*◌, ◌/◌, ◌%◌, ◌^◌, ◌<◌, ◌≤◌, min, zero-le}
 use native.Mathlib.Nat.{le_refl, zero-mul, one-mul}
 use native.Mathlib.Numerals.{add-one}
 use native.Mathlib.Omega.{arith}
@@ -32,6 +32,19 @@ module _ (q m : ℕ) where
   pub end_past : m ≤ q → m ≡ end_of q m
   unfolding end_of
   end_past h = rw (le-ltb q m h)
+
+  pub end_min : (r : ℕ) → r ≡ min q m → r ≡ end_of q m
+  end_min r e = go (ltb q m) refl
+    where
+      go : (b : Bool) → ltb q m ≡ b → r ≡ end_of q m
+      go true t =
+          let l : q < m = ltb-true q m t in
+          let w : q ≡ end_of q m = end_within l in
+          omega arith
+      go false t =
+          let l : m ≤ q = ltb-false q m t in
+          let w : m ≡ end_of q m = end_past l in
+          omega arith
 
   pub end_le : end_of q m ≤ q
   unfolding end_of
@@ -146,7 +159,7 @@ module _ (table : Table) (x : Float) (r : Bool) (q : r ≡ is_nan x) where
 
 -- r is the answer of `is_outside`
 module _ (list : List Float) (table : Table) (x : Float) (r : Bool) (q : r ≡ outside_of table x) where
-  pub edge_outside : r ≡ true → none ≡ edge_bin list table x
+  pub edge_outside : r ≡ true → None ≡ edge_bin list table x
   unfolding edge_bin
   edge_outside t = rw (← q, t)
 

@@ -1,5 +1,5 @@
 -- Lookups in edges by a table: what the functions return for any hints and table, also ones of other edges.
-use Rattle.std.proofs.Math.Option.{Option, none, some}
+use Rattle.std.specs.Prelude.{Option, None, Some}
 use Rattle.std.specs.Prelude.{List, Bool, true, false, cond, not, ◌&&◌, ◌||◌, ℕ, zero, suc, ◌+◌, ◌-◌, ◌*◌, ◌/◌, ◌%◌, ◌^◌, leb, ltb, eqb, length, get_or, set, Float}
 use Rattle.std.specs.Float.{binary64}
 use Rattle.std.specs.Float.Ieee.{add, sub, mul, div, lt, le, eq, ne, is_nan, of_bits, to_bits}
@@ -83,13 +83,13 @@ located list x =
 
 -- what the search by quarters finds, tested by the edges, then by the keys; else the plain lookup
 unfoldable pub located_bin : List Float → Float → Option ℕ
-located_bin list x = cond (shown list x (located list x)) (some (located list x)) (cond (holds list x (located list x)) (some (located list x)) (built_bin Irregular list x))
+located_bin list x = cond (shown list x (located list x)) (Some (located list x)) (cond (holds list x (located list x)) (Some (located list x)) (built_bin Irregular list x))
 
 unfoldable pub outside_of : Table → Float → Bool
 outside_of table x = is_nan x || lt x table.first || le table.last x
 
 unfoldable pub edge_bin : List Float → Table → Float → Option ℕ
-edge_bin list table x = cond (outside_of table x) none (located_bin list x)
+edge_bin list table x = cond (outside_of table x) None (located_bin list x)
 
 unfoldable pub table_bin : BuiltEdges → List Float → Table → Float → Option ℕ
 table_bin (Regular e) list table x = built_bin (Regular e) list x

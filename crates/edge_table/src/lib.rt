@@ -4,10 +4,8 @@
 ghost use Rattle.std.specs.Prelude.{◌≡◌, ◌+◌, ◌-◌, ◌*◌, ◌≤◌, ◌<◌, length};
 ghost use Rattle.definitions.specs.Lists.{at};
 ghost use Rattle.floats.specs.Order.{order_key};
-ghost use Rattle.bins.specs.Answers.{index_of};
 ghost use Rattle.edge_table.specs.Table.{table_of, place_of, hint_place, end_of, spread, bin_hinted, hints_of, hints_for, outside_of, edge_bin, table_bin, no_table, value_table_of, value_hints_for, enclosed, shown, holds, step_up, climb, located, located_bin, flag_of, past_end, near_hint, sure_at};
 
-use bins::BinIndex;
 use reducer::{BuiltEdges, Reducer};
 
 // Ends of the edges; a value's place of hints is scale times it plus offset.
@@ -25,7 +23,7 @@ pub struct Table {
 fn edge_at(list: &[f64], i: usize) -> f64
     ensures { result ≡ at list.now i }
 {
-    if i < list.len() { list[i] } else { 0.0 / 0.0 }
+    if i < list.len() { list[i] } else { f64::NAN }
 }
 
 // The order key without a branch on the sign, which may change from value to value.
@@ -76,7 +74,7 @@ fn hint_place(table: Table, value: f64) -> usize
 fn end_of(q: usize, len: usize) -> usize
     ensures { (result ≡ end_of q len) × (result ≤ len) }
 {
-    if q < len { q } else { len }
+    q.min(len)
 }
 
 // b at the places from p up to the end.
@@ -84,10 +82,8 @@ fn spread_hint(p: usize, b: u8, end: usize, hints: &mut [u8])
     requires { end ≤ length hints.old }
     ensures { hints.new ≡ spread p b (end - p) hints.old }
 {
-    let mut i = p;
-    while i < end {
+    for i in p..end {
         hints[i] = b;
-        i += 1;
     }
 }
 
@@ -106,10 +102,8 @@ fn hint_bins(list: &[f64], table: Table, hints: &mut [u8])
     ensures { hints.new ≡ hints_of table list.now (length list.now - 1) hints.old }
 {
     let n = reducer::n_bins(BuiltEdges::Irregular, list.len());
-    let mut b = 0;
-    while b < n {
+    for b in 0..n {
         hint_bin(list, table, b, hints);
-        b += 1;
     }
 }
 
@@ -152,7 +146,7 @@ pub fn is_shown(list: &[f64], x: f64, h: usize) -> bool
 fn is_held(list: &[f64], x: f64, h: usize) -> bool
     ensures { result ≡ holds list.now x h }
 {
-    if floats::is_nan(x) {
+    if x.is_nan() {
         return false;
     }
     let n = reducer::n_bins(BuiltEdges::Irregular, list.len());
@@ -201,15 +195,15 @@ pub fn locate(list: &[f64], x: f64) -> usize
 }
 
 // The bin of a value that is past no end.
-pub fn located_bin(list: &[f64], x: f64) -> BinIndex
-    ensures { index_of result ≡ located_bin list.now x }
+pub fn located_bin(list: &[f64], x: f64) -> Option<usize>
+    ensures { result ≡ located_bin list.now x }
 {
     let h = locate(list, x);
     if is_shown(list, x, h) {
-        return BinIndex::At(h);
+        return Some(h);
     }
     if is_held(list, x, h) {
-        return BinIndex::At(h);
+        return Some(h);
     }
     reducer::bin_of(BuiltEdges::Irregular, list, x)
 }
@@ -218,7 +212,7 @@ pub fn located_bin(list: &[f64], x: f64) -> BinIndex
 fn is_outside(table: Table, value: f64) -> bool
     ensures { result ≡ outside_of table value }
 {
-    if floats::is_nan(value) {
+    if value.is_nan() {
         return true;
     }
     if value < table.first {
@@ -228,18 +222,18 @@ fn is_outside(table: Table, value: f64) -> bool
 }
 
 // The bin in irregular edges by the search.
-fn edge_bin(list: &[f64], table: Table, value: f64) -> BinIndex
-    ensures { index_of result ≡ edge_bin list.now table value }
+fn edge_bin(list: &[f64], table: Table, value: f64) -> Option<usize>
+    ensures { result ≡ edge_bin list.now table value }
 {
     if is_outside(table, value) {
-        return BinIndex::None;
+        return None;
     }
     located_bin(list, value)
 }
 
 // One bin by the table: the edges' own where the table is theirs.
-pub fn bin_of(edges: BuiltEdges, list: &[f64], table: Table, value: f64) -> BinIndex
-    ensures { index_of result ≡ table_bin edges list.now table value }
+pub fn bin_of(edges: BuiltEdges, list: &[f64], table: Table, value: f64) -> Option<usize>
+    ensures { result ≡ table_bin edges list.now table value }
 {
     match edges {
         BuiltEdges::Regular(_) => reducer::bin_of(edges, list, value),
@@ -281,12 +275,12 @@ fn near_hint(list: &[f64], x: f64, h: usize) -> usize
 {
     let edge = edge_at(list, h);
     if x < edge {
-        return if h > 0 { h - 1 } else { 0 };
+        return h.saturating_sub(1);
     }
     h + step_up(list, x, h + 1, 1)
 }
 
-// The bin of the hint at place p or the one beside it where the edges enclose the value, in most lookups by the first way out; 4096 for one past an end, and all else is the largest usize.
+// The bin of the hint at place p, or the one beside it, where the edges enclose the value; most lookups end at the first of the two. 4096 for a value past an end, and the largest usize where neither encloses it.
 pub fn sure_at(list: &[f64], hints: &[u8], x: f64, p: usize) -> usize
     ensures { result ≡ sure_at list.now hints.now x p }
 {

@@ -17,9 +17,12 @@ use Rattle.definitions.specs.Lists.{at}
 use Rattle.definitions.specs.Bins.{irregular, bins}
 use Rattle.definitions.specs.Rules.{refusal, if_accepted, edges_call_rules, all_finite, increasing}
 use Rattle.bins.proofs.Irregular.{finite_at}
-use Rattle.edge_validation.specs.declared.Validated.{Validated}
-use Rattle.edge_validation.specs.declared.Validated.TheVariants.{Accepted, Refused}
-use Rattle.edge_validation.specs.Answers.{valid_number, valid_accepted}
+use Rattle.std.specs.Prelude.{is_ok}
+use Rattle.std.specs.declared.result.Result.{Result}
+use Rattle.std.specs.declared.result.Result.TheVariants.{Ok, Err}
+use Rattle.refusals.specs.declared.Refusal.{Refusal}
+use Rattle.refusals.specs.declared.Refusal.TheVariants.{OverLimit, NotFinite, TooFewEdges, NotIncreasing}
+use Rattle.refusals.specs.Numbers.{number_of}
 
 -- ---- all finite: what is left from i on decides
 module _ (es : List Float) (i : ℕ) (h : i < length es) (r : Bool) (q : r ≡ finite (at es i)) (inv : all_finite es ≡ all_finite (drop i es)) where
@@ -57,30 +60,30 @@ module _ (es : List Float) (i : ℕ) (r : Bool) (z : 1 ≤ i) (inv : increasing 
   rising_done h = rising_one r (drop (i - 1) es) (simp length-drop (omega arith)) ∙ sym inv
 
 -- ---- each outcome of `validate_bin_edges`
-abbrev Valid : List Float → Validated → Type 0
-Valid es r = (valid_number r ≡ refusal (edges_call_rules (irregular es))) × (valid_accepted r ≡ if_accepted (edges_call_rules (irregular es)) true false)
+abbrev Valid : List Float → Result (Unit {0}) Refusal → Type 0
+Valid es r = (number_of r ≡ refusal (edges_call_rules (irregular es))) × (is_ok r ≡ if_accepted (edges_call_rules (irregular es)) true false)
 
 module _ (es : List Float) where
-  pub valid_7 : 257 < length es → Valid es (Refused 7)
+  pub valid_7 : 257 < length es → Valid es (Err OverLimit)
   unfolding bins
   valid_7 h = rw (lt-ltb 256 (length es - 1) (omega arith)) (refl, refl)
 
   module _ (h : length es ≤ 257) where
-    pub valid_12 : length es < 2 → Valid es (Refused 12)
+    pub valid_12 : length es < 2 → Valid es (Err TooFewEdges)
     unfolding bins
     valid_12 k = rw (le-ltb 256 (length es - 1) (omega arith), lt-ltb (length es) 2 k) (refl, refl)
 
     module _ (k : 2 ≤ length es) where
-      pub valid_10 : all_finite es ≡ false → Valid es (Refused 10)
+      pub valid_10 : all_finite es ≡ false → Valid es (Err NotFinite)
       unfolding bins
       valid_10 a = rw (le-ltb 256 (length es - 1) (omega arith), le-ltb (length es) 2 k, a) (refl, refl)
 
       module _ (a : all_finite es ≡ true) where
-        pub valid_13 : increasing es ≡ false → Valid es (Refused 13)
+        pub valid_13 : increasing es ≡ false → Valid es (Err NotIncreasing)
         unfolding bins
         valid_13 b = rw (le-ltb 256 (length es - 1) (omega arith), le-ltb (length es) 2 k, a, b) (refl, refl)
 
-        pub valid_accepted_law : increasing es ≡ true → Valid es Accepted
+        pub valid_accepted_law : increasing es ≡ true → Valid es (Ok tt)
         unfolding bins
         valid_accepted_law b = rw (le-ltb 256 (length es - 1) (omega arith), le-ltb (length es) 2 k, a, b) (refl, refl)
 

@@ -1,24 +1,11 @@
 // What Rust's f64 has beyond IEEE 754's operations, for every f64.
 #![tactic(auto)]
 
-ghost use Rattle.std.specs.Prelude.{◌≡◌, from_bits, is_nan, to_bits};
+ghost use Rattle.std.specs.Prelude.{◌≡◌, false, from_bits, replicate, to_bits};
 ghost use Rattle.std.specs.Float.{binary64};
 ghost use Rattle.std.specs.Float.Ieee.Scale.{finite};
-ghost use Rattle.definitions.specs.Floats.{as_usize};
+ghost use Rattle.definitions.specs.Floats.{as_usize, zero_f};
 ghost use Rattle.floats.specs.Order.{order_key};
-
-// For every number.
-fn cut(x: f64) -> usize
-    ensures { result ≡ as_usize x }
-{
-    if x > -1.0 {
-        if x < 18446744073709551616.0 {
-            return std::num::truncating_f64_to_u64(x) as usize;
-        }
-        return usize::MAX;
-    }
-    0
-}
 
 // x as usize: toward zero, 0 for a NaN or a negative number, the largest usize above the range.
 // Adding 2^52 rounds to a whole number, which the low bits then hold. It is tested, so nothing rests on it; 0.4999 less, most numbers below 4096 pass.
@@ -26,7 +13,7 @@ pub fn as_usize(x: f64) -> usize
     ensures { result ≡ as_usize x }
 {
     let rounded = x - 0.4999 + 4503599627370496.0;
-    if !is_nan(rounded) {
+    if !rounded.is_nan() {
         let n = f64::to_bits(rounded) % 4096;
         if x >= (n as f64) {
             if x < ((n + 1) as f64) {
@@ -34,28 +21,21 @@ pub fn as_usize(x: f64) -> usize
             }
         }
     }
-    cut(x)
-}
-
-pub fn is_nan(x: f64) -> bool
-    ensures { result ≡ is_nan x }
-{
-    x != x
+    std::num::saturating_f64_to_usize(x)
 }
 
 // Neither infinite nor a NaN.
 pub fn is_finite(x: f64) -> bool
     ensures { result ≡ finite x }
 {
-    let top = 1.0 / 0.0;
-    if x < top { -top < x } else { false }
+    x.is_finite()
 }
 
 // Two keys compare as f64::total_cmp compares the numbers. A NaN's key is that of the NaN 7ff8000000000000.
 pub fn total_key(x: f64) -> u64
     ensures { result ≡ order_key x }
 {
-    if is_nan(x) {
+    if x.is_nan() {
         return 0xfff8_0000_0000_0000;
     }
     let b = f64::to_bits(x);
@@ -71,7 +51,7 @@ pub fn from_bits(n: u64) -> f64
     ensures { result ≡ from_bits binary64 n }
 {
     if n % 0x8000_0000_0000_0000 > 0x7ff0_0000_0000_0000 {
-        return 0.0 / 0.0;
+        return f64::NAN;
     }
     f64::from_bits(n)
 }
@@ -80,8 +60,15 @@ pub fn from_bits(n: u64) -> f64
 pub fn to_bits(x: f64) -> u64
     ensures { result ≡ to_bits binary64 x }
 {
-    if is_nan(x) {
+    if x.is_nan() {
         return 0x7ff8_0000_0000_0000;
     }
     f64::to_bits(x)
+}
+
+// N zeros.
+pub fn zeros<const N: usize>() -> [f64; N]
+    ensures { result ≡ replicate N (zero_f false) }
+{
+    [0.0; N]
 }

@@ -1,13 +1,15 @@
 -- The next offset without division: after number i stands number i + 1 (`next_number`), so a walk from a sequence's first offset (`cross_first`, `auto_first`) meets each in order (`cross_next`, `auto_next`). Assumes nothing.
 use mathlib.Core.Path.{◌≡◌, refl, sym, ap, ◌∙◌}
-use mathlib.Core.Option.{some, some_inj}
+use Rattle.std.specs.Prelude.{Some}
+use Rattle.std.proofs.lemmas.Option.{same_Some}
 use mathlib.Core.Bool.{Bool, true, false}
 use Prim.Native.Nat.{ℕ, suc, ◌+◌, ◌-◌, ◌*◌, ◌/◌, ◌%◌, ◌≤◌, ◌<◌}
 use native.Mathlib.Nat.{suc-mul, mod-lt, div-add-mod'}
 use native.Mathlib.Omega.{arith}
 use lib.Arith.{digits_div, digits_mod}
 use lib.Dec.{ltb}
-use lib.ListN.{length, get_elem?}
+use lib.ListN.{length}
+use Rattle.std.specs.Prelude.{slice_get}
 use lib.IntN.{ℤ, pos, negsuc, sub_ℕ, ◌+ℤ◌}
 use lib.Signed.{lt_z}
 use borrow.Author.Tests.{lt-ltb, ltb-true, ltb-false}
@@ -109,14 +111,14 @@ module _ (a b : Axes) (ha : Walkable a) (hb : Walkable b) (i : ℕ) where
 
 -- ---- the sequences
 module _ (a b : Axes) where
-  pub cross_next : (i : ℕ) → i + 1 < length (cross_seq a b) → (d : Idx3DOffset) → get_elem? (cross_seq a b) i ≡ some d → get_elem? (cross_seq a b) (i + 1) ≡ some (offset_after a b d)
+  pub cross_next : (i : ℕ) → i + 1 < length (cross_seq a b) → (d : Idx3DOffset) → slice_get (cross_seq a b) i ≡ Some d → slice_get (cross_seq a b) (i + 1) ≡ Some (offset_after a b d)
   cross_next i l d p =
       let ha = cross_fits_a a b (i + 1) (length (cross_seq a b)) refl l in
       let hb = cross_fits_b a b (i + 1) (length (cross_seq a b)) refl l in
-      let e : d ≡ offset_number a b i = sym (some_inj.0 (cross_number a b ha hb i (omega (arith, cross_length a b ha hb)) ∙ p)) in
-      sym (cross_number a b ha hb (i + 1) (omega (arith, cross_length a b ha hb))) ∙ ap some (sym (next_number a b ha hb i) ∙ ap (offset_after a b) (sym e))
+      let e : d ≡ offset_number a b i = sym (same_Some _ _ (cross_number a b ha hb i (omega (arith, cross_length a b ha hb)) ∙ p)) in
+      sym (cross_number a b ha hb (i + 1) (omega (arith, cross_length a b ha hb))) ∙ ap Some (sym (next_number a b ha hb i) ∙ ap (offset_after a b) (sym e))
 
-  pub cross_first : 0 < length (cross_seq a b) → get_elem? (cross_seq a b) 0 ≡ some (record { dz = lowest a.z; dy = lowest a.y; dx = lowest a.x })
+  pub cross_first : 0 < length (cross_seq a b) → slice_get (cross_seq a b) 0 ≡ Some (record { dz = lowest a.z; dy = lowest a.y; dx = lowest a.x })
   unfolding offset_number
   cross_first l =
       let ha = cross_fits_a a b 0 (length (cross_seq a b)) refl l in
@@ -124,7 +126,7 @@ module _ (a b : Axes) where
       let x = start (axis_len a.x b.x) (omega arith) in
       let y = start (axis_len a.y b.y) (omega arith) in
       sym (cross_number a b ha hb 0 (omega (arith, cross_length a b ha hb)))
-      ∙ λ t. some (record {
+      ∙ λ t. Some (record {
         dz = sub_ℕ ((ap (λ (r : ℕ). r / axis_len a.y b.y) x.0 ∙ y.0) t) (a.z - 1);
         dy = sub_ℕ ((ap (λ (r : ℕ). r % axis_len a.y b.y) x.0 ∙ y.1) t) (a.y - 1);
         dx = sub_ℕ (x.1 t) (a.x - 1);
@@ -146,15 +148,15 @@ module _ (a : Axes) where
         dx = (ap (λ (j : ℕ). sub_ℕ (j % axis_len a.x a.x) (a.x - 1)) m ∙ ap (λ (j : ℕ). sub_ℕ j (a.x - 1)) (digits_mod row lx) ∙ self (a.x - 1)) t;
       }
 
-  pub auto_next : (i : ℕ) → i + 1 < length (auto_seq a) → (d : Idx3DOffset) → get_elem? (auto_seq a) i ≡ some d → get_elem? (auto_seq a) (i + 1) ≡ some (offset_after a a d)
+  pub auto_next : (i : ℕ) → i + 1 < length (auto_seq a) → (d : Idx3DOffset) → slice_get (auto_seq a) i ≡ Some d → slice_get (auto_seq a) (i + 1) ≡ Some (offset_after a a d)
   auto_next i l d p =
       let h = auto_fits a (i + 1) (length (auto_seq a)) refl l in
-      let e : d ≡ offset_number a a (middle_of a + 1 + i) = sym (some_inj.0 (auto_number a h i (omega (arith, auto_length a h)) ∙ p)) in
+      let e : d ≡ offset_number a a (middle_of a + 1 + i) = sym (same_Some _ _ (auto_number a h i (omega (arith, auto_length a h)) ∙ p)) in
       let k : middle_of a + 1 + i + 1 ≡ middle_of a + 1 + (i + 1) = omega arith in
-      sym (auto_number a h (i + 1) (omega (arith, auto_length a h))) ∙ ap some (ap (offset_number a a) (sym k) ∙ sym (next_number a a h h (middle_of a + 1 + i)) ∙ ap (offset_after a a) (sym e))
+      sym (auto_number a h (i + 1) (omega (arith, auto_length a h))) ∙ ap Some (ap (offset_number a a) (sym k) ∙ sym (next_number a a h h (middle_of a + 1 + i)) ∙ ap (offset_after a a) (sym e))
 
-  pub auto_first : 0 < length (auto_seq a) → get_elem? (auto_seq a) 0 ≡ some (offset_after a a (record { dz = pos 0; dy = pos 0; dx = pos 0 }))
+  pub auto_first : 0 < length (auto_seq a) → slice_get (auto_seq a) 0 ≡ Some (offset_after a a (record { dz = pos 0; dy = pos 0; dx = pos 0 }))
   auto_first l =
       let h = auto_fits a 0 (length (auto_seq a)) refl l in
       let k : middle_of a + 1 + 0 ≡ middle_of a + 1 = omega arith in
-      sym (auto_number a h 0 (omega (arith, auto_length a h))) ∙ ap some (ap (offset_number a a) k ∙ sym (next_number a a h h (middle_of a)) ∙ ap (offset_after a a) (middle_zero h))
+      sym (auto_number a h 0 (omega (arith, auto_length a h))) ∙ ap Some (ap (offset_number a a) k ∙ sym (next_number a a h h (middle_of a)) ∙ ap (offset_after a a) (middle_zero h))

@@ -1,6 +1,7 @@
 -- The sequences that the crate hands out, by the axes: their lengths, number i, and the definitions' fold over all offsets as the fold over the auto sequence (`auto_fold`). Assumes nothing.
 use mathlib.Core.Path.{◌≡◌, refl, sym, ap, ◌∙◌, subst}
-use mathlib.Core.Option.{Option, none, some, some_inj}
+use Rattle.std.specs.Prelude.{Option, None, Some}
+use Rattle.std.proofs.lemmas.Option.{same_Some}
 use mathlib.Core.List.{List, [], map}
 use mathlib.Core.Bool.{Bool, true, false, not, cond, ◌&&◌}
 use Prim.Native.Nat.{ℕ, zero, suc, ◌+◌, ◌-◌, ◌*◌, ◌/◌, ◌%◌, ◌≤◌, ◌<◌}
@@ -9,7 +10,8 @@ use native.Mathlib.Omega.{arith}
 use lib.Dec.{T, leb, ltb, eqb, leb→le}
 use lib.Ieee.Fits.{and_l, and_r}
 use borrow.Author.Tests.{le-leb, ne_eqb}
-use lib.ListN.{length, get_elem?}
+use lib.ListN.{length}
+use Rattle.std.specs.Prelude.{slice_get}
 use lib.IntN.{ℤ, sub_ℕ}
 use lib.Ieee.{Float}
 use Rattle.definitions.specs.Lists.{range, upto, fold_at}
@@ -49,8 +51,8 @@ module _ (a b : Axes) (ha : Walkable a) (hb : Walkable b) where
   pub cross_length : cross_len a b ≡ length (cross_seq a b)
   cross_length = sym (ap length cross_table ∙ table_length (offset_number a b) 0 (cross_len a b))
 
-  pub cross_number : (i : ℕ) → i < cross_len a b → some (offset_number a b i) ≡ get_elem? (cross_seq a b) i
-  cross_number i h = sym (ap (λ (l : List Idx3DOffset). get_elem? l i) cross_table ∙ table_some (offset_number a b) 0 (cross_len a b) i h ∙ ap (λ (j : ℕ). some (offset_number a b j)) (zero-add i))
+  pub cross_number : (i : ℕ) → i < cross_len a b → Some (offset_number a b i) ≡ slice_get (cross_seq a b) i
+  cross_number i h = sym (ap (λ (l : List Idx3DOffset). slice_get l i) cross_table ∙ table_some (offset_number a b) 0 (cross_len a b) i h ∙ ap (λ (j : ℕ). Some (offset_number a b j)) (zero-add i))
 
   pub part_most : axis_len a.z b.z * axis_len a.y b.y ≤ 16_129
   part_most =
@@ -89,11 +91,11 @@ module _ (a : Axes) (h : Walkable a) where
   pub auto_length : middle_of a ≡ length (auto_seq a)
   auto_length = sym (ap length auto_table ∙ table_length (offset_number a a) (suc (middle_of a)) (middle_of a))
 
-  pub auto_number : (i : ℕ) → i < middle_of a → some (offset_number a a (middle_of a + 1 + i)) ≡ get_elem? (auto_seq a) i
+  pub auto_number : (i : ℕ) → i < middle_of a → Some (offset_number a a (middle_of a + 1 + i)) ≡ slice_get (auto_seq a) i
   auto_number i l = sym (
-      ap (λ (q : List Idx3DOffset). get_elem? q i) auto_table
+      ap (λ (q : List Idx3DOffset). slice_get q i) auto_table
       ∙ table_some (offset_number a a) (suc (middle_of a)) (middle_of a) i l
-      ∙ let e : suc (middle_of a) + i ≡ middle_of a + 1 + i = omega arith in ap (λ (j : ℕ). some (offset_number a a j)) e)
+      ∙ let e : suc (middle_of a) + i ≡ middle_of a + 1 + i = omega arith in ap (λ (j : ℕ). Some (offset_number a a j)) e)
 
   pub auto_counts : (z : ℤ) → Counts z (length (cross_seq a a) / 2) → Counts z (length (auto_seq a))
   unfolding middle_of
@@ -139,8 +141,8 @@ module _ (a b : Axes) (i n : ℕ) (e : n ≡ length (cross_seq a b)) (l : i < n)
   pub cross_small : i ≤ 2_097_152
   cross_small = omega (arith, below, cross_most a b cross_fits_a cross_fits_b)
 
-  pub cross_found : (d : Idx3DOffset) (j : ℕ) → d ≡ offset_number a b j → j ≡ i → some d ≡ get_elem? (cross_seq a b) i
-  cross_found d j p q = ap some (p ∙ ap (offset_number a b) q) ∙ cross_number a b cross_fits_a cross_fits_b i below
+  pub cross_found : (d : Idx3DOffset) (j : ℕ) → d ≡ offset_number a b j → j ≡ i → Some d ≡ slice_get (cross_seq a b) i
+  cross_found d j p q = ap Some (p ∙ ap (offset_number a b) q) ∙ cross_number a b cross_fits_a cross_fits_b i below
 
 module _ (a : Axes) (i n : ℕ) (e : n ≡ length (auto_seq a)) (l : i < n) where
   pub auto_fits : Walkable a
@@ -153,11 +155,11 @@ module _ (a : Axes) (i n : ℕ) (e : n ≡ length (auto_seq a)) (l : i < n) wher
   pub auto_small : length (auto_seq a) + 1 + i ≤ 2_097_152
   auto_small = omega (arith, auto_length a auto_fits, middle_twice a auto_fits, cross_most a a auto_fits auto_fits)
 
-  pub auto_found : (d : Idx3DOffset) (j : ℕ) → d ≡ offset_number a a j → j ≡ length (auto_seq a) + 1 + i → some d ≡ get_elem? (auto_seq a) i
+  pub auto_found : (d : Idx3DOffset) (j : ℕ) → d ≡ offset_number a a j → j ≡ length (auto_seq a) + 1 + i → Some d ≡ slice_get (auto_seq a) i
   auto_found d j p q =
-      ap some (p ∙ ap (offset_number a a) (q ∙ ap (λ (m : ℕ). m + 1 + i) (sym (auto_length a auto_fits)))) ∙ auto_number a auto_fits i (omega (arith, auto_length a auto_fits))
+      ap Some (p ∙ ap (offset_number a a) (q ∙ ap (λ (m : ℕ). m + 1 + i) (sym (auto_length a auto_fits)))) ∙ auto_number a auto_fits i (omega (arith, auto_length a auto_fits))
 
-pub past_end_law : (l : List Idx3DOffset) (i n : ℕ) → n ≡ length l → n ≤ i → none ≡ get_elem? l i
+pub past_end_law : (l : List Idx3DOffset) (i n : ℕ) → n ≡ length l → n ≤ i → None ≡ slice_get l i
 past_end_law l i n e h = sym (none_past l i (omega arith))
 
 -- ---- what a caller's loops stand on
@@ -167,7 +169,7 @@ module _ (a b : Axes) (ha : Walkable a) (hb : Walkable b) where
   cross_all = λ t. cond (fits_axes a ha t && fits_axes b hb t) (axes_offsets a.z a.y a.x b.z b.y b.x) []
 
 -- the definitions' fold over all offsets, in which only those after (0, 0, 0) add, is the fold over the auto sequence
-pub auto_fold : (a : Axes) → Walkable a → (t : Idx3DOffset → Option Float) (x : Float) → fold_at (λ d. cond (is_after d) (t d) none) x (axes_offsets a.z a.y a.x a.z a.y a.x) ≡ fold_at t x (auto_seq a)
+pub auto_fold : (a : Axes) → Walkable a → (t : Idx3DOffset → Option Float) (x : Float) → fold_at (λ d. cond (is_after d) (t d) None) x (axes_offsets a.z a.y a.x a.z a.y a.x) ≡ fold_at t x (auto_seq a)
 unfolding auto_seq
 auto_fold a h t x = fold_those is_after t x (axes_offsets a.z a.y a.x a.z a.y a.x) ∙ ap (λ (l : List Idx3DOffset). fold_at t x (those is_after l)) (sym (cross_all a a h h))
 
@@ -185,13 +187,13 @@ number_reach a b h g i l =
       x_axis = axis_within (i % axis_len a.x b.x) a.x b.x h.x_axis g.x_axis (mod-lt i x);
     }
 
-pub cross_reach : (a b : Axes) (i n : ℕ) → n ≡ length (cross_seq a b) → i < n → (d : Idx3DOffset) → some d ≡ get_elem? (cross_seq a b) i → Reach a b d
+pub cross_reach : (a b : Axes) (i n : ℕ) → n ≡ length (cross_seq a b) → i < n → (d : Idx3DOffset) → Some d ≡ slice_get (cross_seq a b) i → Reach a b d
 cross_reach a b i n e l d p =
-    subst (Reach a b) (some_inj.0 (cross_number a b (cross_fits_a a b i n e l) (cross_fits_b a b i n e l) i (below a b i n e l) ∙ sym p))
+    subst (Reach a b) (same_Some _ _ (cross_number a b (cross_fits_a a b i n e l) (cross_fits_b a b i n e l) i (below a b i n e l) ∙ sym p))
     (number_reach a b (cross_fits_a a b i n e l) (cross_fits_b a b i n e l) i (below a b i n e l))
 
-pub auto_reach : (a : Axes) (i n : ℕ) → n ≡ length (auto_seq a) → i < n → (d : Idx3DOffset) → some d ≡ get_elem? (auto_seq a) i → Reach a a d
+pub auto_reach : (a : Axes) (i n : ℕ) → n ≡ length (auto_seq a) → i < n → (d : Idx3DOffset) → Some d ≡ slice_get (auto_seq a) i → Reach a a d
 auto_reach a i n e l d p =
     let h = auto_fits a i n e l in
     let k : i < middle_of a = omega (arith, auto_length a h) in
-    subst (Reach a a) (some_inj.0 (auto_number a h i k ∙ sym p)) (number_reach a a h h (middle_of a + 1 + i) (omega (arith, middle_twice a h)))
+    subst (Reach a a) (same_Some _ _ (auto_number a h i k ∙ sym p)) (number_reach a a h h (middle_of a + 1 + i) (omega (arith, middle_twice a h)))

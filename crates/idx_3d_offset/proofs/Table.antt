@@ -1,6 +1,6 @@
 -- The offsets of two blocks as a table: number i by division (`table`); a number of three digits is after (0, 0, 0) where it is past the middle (`after_centre`); those past a place (`those_past`). Assumes nothing.
 use mathlib.Core.Path.{◌≡◌, refl, sym, ap, ◌∙◌, fun_ext}
-use mathlib.Core.Option.{Option, none, some}
+use Rattle.std.specs.Prelude.{Option, None, Some}
 use mathlib.Core.List.{List, [], ◌∷◌, ◌++◌, map, map-map, map-append, append_assoc}
 use mathlib.Core.Bool.{Bool, true, false, not, cond, ◌&&◌, ◌||◌}
 use Prim.Native.Nat.{ℕ, zero, suc, ◌+◌, ◌-◌, ◌*◌, ◌/◌, ◌%◌, ◌≤◌, ◌<◌}
@@ -10,7 +10,8 @@ use lib.Arith.{digits_div, digits_mod}
 use lib.Dec.{T, ltb, eqb, ltb→lt, lt→ltb, nltb→le, eqb→eq}
 use lib.Ieee.Fits.{eq→eqb}
 use borrow.Author.Tests.{lt-ltb, le-ltb, ne_eqb, ltb-true, ltb-false, eqb-true, eqb-false}
-use lib.ListN.{length, get_elem?}
+use lib.ListN.{length}
+use Rattle.std.specs.Prelude.{slice_get}
 use lib.IntN.{pos, negsuc, sub_ℕ}
 use lib.Ieee.{Float}
 use Rattle.definitions.specs.Lists.{range, upto, flat_map, add_opt, fold_at}
@@ -155,10 +156,10 @@ module _ (Lz Ly Lx : ℕ) (hy : 1 ≤ Ly) (hx : 1 ≤ Lx) where
 
 -- ---- the sequences
 module _ {A : Type 0} (f : ℕ → A) where
-  pub table_some : (k n i : ℕ) → i < n → get_elem? (map f (range k n)) i ≡ some (f (k + i))
+  pub table_some : (k n i : ℕ) → i < n → slice_get (map f (range k n)) i ≡ Some (f (k + i))
   table_some k zero i h = absurd (omega arith)
-  table_some k (suc n) zero h = ap (λ (j : ℕ). some (f j)) (sym (add-zero k))
-  table_some k (suc n) (suc i) h = table_some (suc k) n i (omega arith) ∙ let e : suc k + i ≡ k + suc i = omega arith in ap (λ (j : ℕ). some (f j)) e
+  table_some k (suc n) zero h = ap (λ (j : ℕ). Some (f j)) (sym (add-zero k))
+  table_some k (suc n) (suc i) h = table_some (suc k) n i (omega arith) ∙ let e : suc k + i ≡ k + suc i = omega arith in ap (λ (j : ℕ). Some (f j)) e
 
   pub table_length : (k n : ℕ) → length (map f (range k n)) ≡ n
   table_length k zero = refl
@@ -193,16 +194,16 @@ module _ {A : Type 0} (p : A → Bool) (f : ℕ → A) where
       ∙ ap (λ (k : ℕ). those p (map f (range k m))) (zero-add (suc c))
       ∙ those_all (suc c) m (λ i l. h i ∙ lt-ltb c i (omega arith))
 
-pub none_past : {A : Type 0} (l : List A) (i : ℕ) → length l ≤ i → get_elem? l i ≡ none
+pub none_past : {A : Type 0} (l : List A) (i : ℕ) → length l ≤ i → slice_get l i ≡ None
 none_past [] i h = refl
 none_past (a ∷ l) zero h = absurd (omega arith)
 none_past (a ∷ l) (suc i) h = none_past l i (omega arith)
 
 -- a fold in which those of which p does not hold add nothing
-pub fold_those : {A : Type 0} (p : A → Bool) (t : A → Option Float) (x : Float) (l : List A) → fold_at (λ a. cond (p a) (t a) none) x l ≡ fold_at t x (those p l)
+pub fold_those : {A : Type 0} (p : A → Bool) (t : A → Option Float) (x : Float) (l : List A) → fold_at (λ a. cond (p a) (t a) None) x l ≡ fold_at t x (those p l)
 fold_those p t x [] = refl
 fold_those p t x (a ∷ l) = go (p a) (λ y. fold_those p t y l)
   where
-    go : (b : Bool) → ((y : Float) → fold_at (λ a. cond (p a) (t a) none) y l ≡ fold_at t y (those p l)) → fold_at (λ a. cond (p a) (t a) none) (add_opt (cond b (t a) none) x) l ≡ fold_at t x (cond b (a ∷ those p l) (those p l))
+    go : (b : Bool) → ((y : Float) → fold_at (λ a. cond (p a) (t a) None) y l ≡ fold_at t y (those p l)) → fold_at (λ a. cond (p a) (t a) None) (add_opt (cond b (t a) None) x) l ≡ fold_at t x (cond b (a ∷ those p l) (those p l))
     go true h = h (add_opt (t a) x)
     go false h = h x

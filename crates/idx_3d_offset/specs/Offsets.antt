@@ -1,21 +1,19 @@
 -- The sequences of offsets, and what the crate's answers stand for. Definitions only.
 use Rattle.std.specs.Prelude.{◌≡◌, List, [], ◌∷◌, Bool, not, cond, ◌&&◌, ℕ, ◌+◌, ◌-◌, ◌*◌, ◌/◌, ◌%◌, ◌≤◌, ◌<◌, leb, eqb, ℤ, pos, ◌+ℤ◌}
-use Rattle.std.proofs.Math.Option.{Option, none, some}
+use Rattle.std.specs.Prelude.{Option, None, Some}
 use Rattle.std.proofs.Math.IntN.{sub_ℕ}
 use Rattle.std.specs.Int.Signed.{lt_z}
 use Rattle.definitions.specs.Blocks as blocks
 use Rattle.definitions.specs.Blocks.{start_a, start_b, axes_offsets, is_after}
 use Rattle.idx_3d_offset.specs.declared.Idx3DOffset.{Idx3DOffset}
 use Rattle.idx_3d_offset.specs.declared.Axes.{Axes}
-use Rattle.idx_3d_offset.specs.declared.Offset.{Offset}
-use Rattle.idx_3d_offset.specs.declared.Offset.TheVariants.{At, End}
 
 abbrev pub idx_of : Idx3DOffset → blocks.Idx3DOffset
 idx_of o = record { dz = o.0; dy = o.1; dx = o.2 }
 
-abbrev pub offset_of : Offset → Option blocks.Idx3DOffset
-offset_of (At o) = some (idx_of o)
-offset_of End = none
+abbrev pub offset_of : Option Idx3DOffset → Option blocks.Idx3DOffset
+offset_of (Some o) = Some (idx_of o)
+offset_of None = None
 
 -- at least one cell and at most 64
 abbrev pub axis_fits : ℕ → Bool

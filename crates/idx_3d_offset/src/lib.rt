@@ -1,8 +1,7 @@
-// The walk over the offsets between the cells of two blocks, and the cells of an axis that take part at an offset (idx_3d_offset.rs).
+// The offsets between the cells of two blocks, each by its number, and the cells of an axis that take part at an offset (idx_3d_offset.rs).
 #![tactic(auto)]
 
-ghost use Rattle.std.specs.Prelude.{◌≡◌, ◌-◌, min, length, nat_abs};
-ghost use Rattle.std.proofs.Math.ListN.{get_elem?};
+ghost use Rattle.std.specs.Prelude.{slice_get, ◌≡◌, ◌-◌, min, length, nat_abs};
 ghost use Rattle.std.proofs.Math.IntN.{sub_ℕ};
 ghost use Rattle.definitions.specs.Blocks.{start_a, start_b, count as count_of};
 ghost use Rattle.idx_3d_offset.specs.Offsets.{idx_of, offset_of, axis_fits, walkable, Axis, Walkable, Counts, cross_seq, auto_seq, axis_len, offset_number};
@@ -17,13 +16,6 @@ pub struct Axes {
     pub z: usize,
     pub y: usize,
     pub x: usize,
-}
-
-// What stands at a position of a sequence of offsets.
-#[derive(Clone, Copy)]
-pub enum Offset {
-    At(Idx3DOffset),
-    End,
 }
 
 // The walk's own numbers.
@@ -124,24 +116,24 @@ pub fn auto_len(a: Axes) -> usize
     0
 }
 
-// Offset number i of two blocks.
-pub fn cross_offset(a: Axes, b: Axes, i: usize) -> Offset
-    ensures { offset_of result ≡ get_elem? (cross_seq a b) i }
+// Offset number i of two blocks; none past the last.
+pub fn cross_offset(a: Axes, b: Axes, i: usize) -> Option<Idx3DOffset>
+    ensures { offset_of result ≡ slice_get (cross_seq a b) i }
 {
     if i < cross_len(a, b) {
-        return Offset::At(offset_at(a, b, i as Num));
+        return Some(offset_at(a, b, i as Num));
     }
-    Offset::End
+    None
 }
 
 // Offset number i of a block with itself, of those after (0, 0, 0).
-pub fn auto_offset(a: Axes, i: usize) -> Offset
-    ensures { offset_of result ≡ get_elem? (auto_seq a) i }
+pub fn auto_offset(a: Axes, i: usize) -> Option<Idx3DOffset>
+    ensures { offset_of result ≡ slice_get (auto_seq a) i }
 {
     if i < auto_len(a) {
-        return Offset::At(offset_at(a, a, middle(a) + 1 + i as Num));
+        return Some(offset_at(a, a, middle(a) + 1 + i as Num));
     }
-    Offset::End
+    None
 }
 
 // On an axis: the first of a's cells that has a partner at offset d.
@@ -164,27 +156,10 @@ pub fn start_b(d: i64) -> usize
     d as usize
 }
 
-fn minus(a: usize, b: usize) -> usize
-    ensures { result ≡ a - b }
-{
-    if a < b {
-        return 0;
-    }
-    a - b
-}
-
-fn least(a: usize, b: usize) -> usize
-    ensures { result ≡ min a b }
-{
-    if a < b {
-        return a;
-    }
-    b
-}
-
 // How many have one, of a's cells and b's: not min(a, b).
 pub fn count(d: i64, a: usize, b: usize) -> usize
     ensures { result ≡ count_of a b d }
 {
-    least(minus(a, start_a(d)), minus(b, start_b(d)))
+    a.saturating_sub(start_a(d))
+        .min(b.saturating_sub(start_b(d)))
 }

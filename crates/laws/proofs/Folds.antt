@@ -1,7 +1,7 @@
 -- Folds of float additions over whole terms are exact. `fold_at t x l` adds to x, in order, what t gives for each item of l, if anything.
 -- `Gives o z`: o is nothing and z is 0, or o is a float that is z. Assumes nothing.
 use mathlib.Core.Path.{◌≡◌, sym, ap, ◌∙◌}
-use mathlib.Core.Option.{Option, none, some}
+use Rattle.std.specs.Prelude.{Option, None, Some}
 use mathlib.Core.List.{List, [], ◌∷◌}
 use Prim.Native.Nat.{◌+◌, ◌≤◌}
 use native.Mathlib.Omega.{arith}
@@ -16,12 +16,12 @@ use Rattle.laws.proofs.Zeros.{zero_of}
 use Rattle.laws.proofs.Sums.{O, size_by}
 
 abbrev pub Gives : Option Float → ℤ → Type 0
-Gives none z = z ≡ O
-Gives (some y) z = Whole y z
+Gives None z = z ≡ O
+Gives (Some y) z = Whole y z
 
 one : (o : Option Float) (a z : ℤ) → Gives o z → nat_abs a ≤ limit → nat_abs (a +ℤ z) ≤ limit → add_opt o (of_int binary64 a) ≡ of_int binary64 (a +ℤ z)
-one none a z g k h = ap (λ (i : ℤ). of_int binary64 i) (sym (ap (λ (i : ℤ). a +ℤ i) g ∙ +ℤ_idr a))
-one (some y) a z g k h = total_add a k g h
+one None a z g k h = ap (λ (i : ℤ). of_int binary64 i) (sym (ap (λ (i : ℤ). a +ℤ i) g ∙ +ℤ_idr a))
+one (Some y) a z g k h = total_add a k g h
 
 module _ {A : Type 0} where
   pub fold_exact : (t : A → Option Float) (f : A → ℤ) (a : ℤ) (l : List A) → All (λ x. Gives (t x) (f x)) l → nat_abs a + size_by f l ≤ limit

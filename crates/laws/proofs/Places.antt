@@ -2,7 +2,7 @@
 -- `add_mean` and `add_hist` are the updates of state s in a pack of n states, as stores. Assumes nothing.
 use mathlib.Core.Path.{◌≡◌, refl, sym, ap, ◌∙◌, subst}
 use mathlib.Core.Logic.{◌≢◌}
-use mathlib.Core.Option.{Option, none, some}
+use Rattle.std.specs.Prelude.{Option, None, Some}
 use mathlib.Core.List.{List, [], ◌∷◌, ◌++◌, map, map-map, map-append}
 use mathlib.Core.Bool.{Bool, true, false, cond}
 use Prim.Native.Nat.{ℕ, zero, suc, ◌+◌, ◌-◌, ◌*◌, ◌/◌, ◌%◌, ◌<◌, ◌≤◌}
@@ -88,13 +88,13 @@ place_of_law n p = div-add-mod' p n
 
 -- at place p a bump of number e of state s is an addition if p is that place
 bump_at : (n s e p : ℕ) (x : Float) (pack : List Float) → s < n → p < length pack
-    → at (bump (e * n + s) x pack) p ≡ add_opt (in_bin (some s) (p % n) (in_bin (some e) (p / n) (some x))) (at pack p)
+    → at (bump (e * n + s) x pack) p ≡ add_opt (in_bin (Some s) (p % n) (in_bin (Some e) (p / n) (Some x))) (at pack p)
 bump_at n s e p x pack hs hp =
     go (eqb s (p % n)) (eqb e (p / n)) (eqb→eq s (p % n)) (eqb→eq e (p / n))
     (λ q. rw (ap (λ (k : ℕ). k % n) q ∙ digits_mod e hs) (eqb_refl s)) (λ q. rw (ap (λ (k : ℕ). k / n) q ∙ digits_div e hs) (eqb_refl e))
   where
     go : (a b : Bool) → (T a → s ≡ p % n) → (T b → e ≡ p / n) → (p ≡ e * n + s → T a) → (p ≡ e * n + s → T b)
-        → at (bump (e * n + s) x pack) p ≡ add_opt (cond a (cond b (some x) none) none) (at pack p)
+        → at (bump (e * n + s) x pack) p ≡ add_opt (cond a (cond b (Some x) None) None) (at pack p)
     go true true f g h k =
         let q : p ≡ e * n + s = sym (place_of_law n p) ∙ sym (ap (λ (i : ℕ). i * n + p % n) (g tt)) ∙ sym (ap (λ (i : ℕ). e * n + i) (f tt)) in
         ap (λ (i : ℕ). at (bump (e * n + s) x pack) i) q ∙ bump_here (e * n + s) x pack (subst (λ (i : ℕ). i < length pack) q hp) ∙ ap (λ (i : ℕ). add binary64 (at pack i) x) (sym q)
@@ -102,24 +102,24 @@ bump_at n s e p x pack hs hp =
     go false b f g h k = bump_else (e * n + s) p x pack (λ q. h q)
 
 pub hist_at : (n s b p : ℕ) (w : Float) (pack : List Float) → s < n → p < length pack
-    → at (add_hist n s b w pack) p ≡ add_opt (in_bin (some s) (p % n) (in_bin (some b) (p / n) (some w))) (at pack p)
+    → at (add_hist n s b w pack) p ≡ add_opt (in_bin (Some s) (p % n) (in_bin (Some b) (p / n) (Some w))) (at pack p)
 hist_at n s b p w pack hs hp = bump_at n s b p w pack hs hp
 
 pub mean_at : (n s p : ℕ) (v w : Float) (pack : List Float) → s < n → p < length pack
-    → at (add_mean n s v w pack) p ≡ add_opt (in_bin (some s) (p % n) (mean_term (p / n) v w)) (at pack p)
+    → at (add_mean n s v w pack) p ≡ add_opt (in_bin (Some s) (p % n) (mean_term (p / n) v w)) (at pack p)
 mean_at n s p v w pack hs hp =
     bump_at n s 1 p w (bump (0 * n + s) (mul binary64 v w) pack) hs (subst (λ (k : ℕ). p < k) (sym (length-set pack (0 * n + s) (add binary64 (at pack (0 * n + s)) (mul binary64 v w)))) hp)
-    ∙ ap (add_opt (in_bin (some s) (p % n) (in_bin (some 1) (p / n) (some w)))) (bump_at n s 0 p (mul binary64 v w) pack hs hp)
+    ∙ ap (add_opt (in_bin (Some s) (p % n) (in_bin (Some 1) (p / n) (Some w)))) (bump_at n s 0 p (mul binary64 v w) pack hs hp)
     ∙ go (eqb s (p % n)) (p / n)
   where
     go : (a : Bool) (e : ℕ)
-        → add_opt (cond a (in_bin (some 1) e (some w)) none) (add_opt (cond a (in_bin (some 0) e (some (mul binary64 v w))) none) (at pack p)) ≡ add_opt (cond a (mean_term e v w) none) (at pack p)
+        → add_opt (cond a (in_bin (Some 1) e (Some w)) None) (add_opt (cond a (in_bin (Some 0) e (Some (mul binary64 v w))) None) (at pack p)) ≡ add_opt (cond a (mean_term e v w) None) (at pack p)
     go false e = refl
     go true zero = refl
     go true (suc zero) = refl
     go true (suc (suc e)) =
-        ap (λ (t : Bool). add_opt (cond t (some w) none) (add_opt (cond (eqb 0 (suc (suc e))) (some (mul binary64 v w)) none) (at pack p))) (eqb-suc-suc 0 (suc e) ∙ eqb-zero-suc e)
-        ∙ ap (λ (t : Bool). add_opt (cond t (some (mul binary64 v w)) none) (at pack p)) (eqb-zero-suc (suc e))
+        ap (λ (t : Bool). add_opt (cond t (Some w) None) (add_opt (cond (eqb 0 (suc (suc e))) (Some (mul binary64 v w)) None) (at pack p))) (eqb-suc-suc 0 (suc e) ∙ eqb-zero-suc e)
+        ∙ ap (λ (t : Bool). add_opt (cond t (Some (mul binary64 v w)) None) (at pack p)) (eqb-zero-suc (suc e))
 
 -- ---- the two loops over pairs, as what is left of them: a loop's invariant may say that what is left, run on the pack as it is now, gives the result
 module _ {A : Type 0} (upd : A × A → List Float → List Float) (g : ℕ → A) (h : ℕ → A) where

@@ -1,14 +1,12 @@
 -- Tables of rules: the first broken rule of two tables one after the other, and what follows where none is broken.
 use mathlib.Core.Path.{◌≡◌, refl, sym, ap, ◌∙◌}
-use mathlib.Core.Option.{some, none}
 use mathlib.Core.List.{List, [], ◌∷◌, ◌++◌}
 use mathlib.Core.Bool.{Bool, true, false, not, cond, ◌&&◌}
 use Prim.Native.Nat.{ℕ}
 use lib.Dec.{T, eqb, T_not}
 use lib.Ieee.Fits.{and_i, and_l, and_r}
 use lib.Ieee.Bits.{is_false}
-use borrow.Author.Tests.{eq-eqb, ne_eqb}
-use Rattle.definitions.specs.Rules.{Rule, refusal, met, if_accepted}
+use Rattle.definitions.specs.Rules.{Rule, refusal}
 
 -- no rule has the number 0, which stands for none: of a written table this computes
 abbrev pub numbered : List Rule → Bool
@@ -78,20 +76,3 @@ broken_right (r ∷ l) m h = broken_right l m (and_r (not r.broken) (none_broken
 pub broken_both : (l m : List Rule) → T (none_broken l) → T (none_broken m) → T (none_broken (l ++ m))
 broken_both [] m h k = k
 broken_both (r ∷ l) m h k = and_i (not r.broken) (none_broken (l ++ m)) (and_l (not r.broken) (none_broken l) h) (broken_both l m (and_r (not r.broken) (none_broken l) h) k)
-
--- ---- what a call answers and leaves, by its refusal's number, which the code has as x
-module _ (l : List Rule) (x : ℕ) (q : x ≡ refusal l) where
-  pub none_met : x ≡ 0 → none ≡ met (refusal l)
-  none_met z = rw (← q, eq-eqb x 0 z)
-
-  pub number_met : (x ≡ 0 → ⊥) → some x ≡ met (refusal l)
-  number_met z = rw (← q, ne_eqb x 0 z)
-
-  module _ {A : Type 0} (a b : A) where
-    pub refused_left : (x ≡ 0 → ⊥) → b ≡ if_accepted l a b
-    refused_left z = rw (← q, ne_eqb x 0 z)
-
-    pub accepted_left : x ≡ 0 → (d : A) → d ≡ a → d ≡ if_accepted l a b
-    accepted_left z d e = rw (← q, eq-eqb x 0 z) e
-
-pub ruleset answers = (none_met, number_met, refused_left, accepted_left)

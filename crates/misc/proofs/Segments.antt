@@ -1,7 +1,7 @@
 -- Where a segment starts, in closed form, and that this is within the indices.
 use mathlib.Core.Path.{◌≡◌, refl}
 use mathlib.Core.Bool.{Bool, true, false, cond}
-use mathlib.Core.Option.{none, some}
+use Rattle.std.specs.Prelude.{Option, None, Some}
 use Prim.Native.Nat.{ℕ, zero, suc, ◌+◌, ◌*◌, ◌/◌, ◌%◌, ◌<◌, ◌≤◌, min}
 use native.Mathlib.Numerals.{add-one}
 use native.Mathlib.Omega.{arith}
@@ -13,8 +13,6 @@ use mir.Facts.{Fits-le}
 use borrow.Author.Tests.{lt-ltb, ltb-true, ltb-false}
 use Rattle.definitions.specs.Segments.{segment_start, segment_stop}
 use Rattle.definitions.specs.Rules.{if_accepted, segment_rules}
-use Rattle.misc.specs.declared.Segment.TheVariants.{Bounds}
-use Rattle.misc.specs.Segment.{segment_bounds}
 
 module _ (n k : ℕ) where
   pub start_closed : (i : ℕ) → segment_start n k i ≡ i * (n / k) + min i (n % k)
@@ -51,6 +49,6 @@ pub ruleset starts = (quotients_fit, longer_fits, shorter_fits, longer_is, short
 
 -- ---- what `segment_idx_bounds` returns: a and b are the answers of its two calls
 pub bounds_are : (n k i a b : ℕ) → i < k → a ≡ segment_start n k i → b ≡ segment_start n k (i + 1)
-    → segment_bounds (Bounds a b) ≡ if_accepted (segment_rules i k) (some (segment_start n k i, segment_stop n k i)) none
+    → ◌≡◌ {A = Option (ℕ × ℕ)} (Some (a, b)) (if_accepted (segment_rules i k) (Some (segment_start n k i, segment_stop n k i)) None)
 unfolding segment_start
 bounds_are n k i a b h p q = rw (lt-ltb i k h, p, q, add-one i)

@@ -1,6 +1,6 @@
 -- The Rust's way leaves the same pack: the zero datum of a binless pair changes no total, since one that begins at +0.0 never becomes -0.0, and the one team's segment is everything.
 use mathlib.Core.Path.{◌≡◌, refl, sym, ap, ◌∙◌, fun_ext}
-use mathlib.Core.Option.{Option, none, some}
+use Rattle.std.specs.Prelude.{Option, None, Some}
 use mathlib.Core.List.{List, [], ◌∷◌, ◌++◌, map}
 use mathlib.Core.Bool.{Bool, true, false, cond}
 use Prim.Native.Nat.{ℕ, zero, suc, ◌+◌, ◌-◌, ◌/◌, ◌%◌}
@@ -45,28 +45,28 @@ clean_zero = record { fit = tt; sign = tt }
 
 -- what is added is nothing or +0.0
 abbrev Idle : Option Float → Type 0
-Idle none = Unit {0}
-Idle (some y) = y ≡ zero_f false
+Idle None = Unit {0}
+Idle (Some y) = y ≡ zero_f false
 
 -- what is added is an f64
 abbrev Fitting : Option Float → Type 0
-Fitting none = Unit {0}
-Fitting (some y) = T (fits binary64 y)
+Fitting None = Unit {0}
+Fitting (Some y) = T (fits binary64 y)
 
 idle_add : (o : Option Float) {x : Float} → Idle o → Clean x → add_opt o x ≡ x
-idle_add none i c = refl
-idle_add (some y) {x} i c = ap (add binary64 x) i ∙ add_plus0 x c.fit c.sign
+idle_add None i c = refl
+idle_add (Some y) {x} i c = ap (add binary64 x) i ∙ add_plus0 x c.fit c.sign
 
 clean_add : (o : Option Float) {x : Float} → Fitting o → Clean x → Clean (add_opt o x)
-clean_add none f c = c
-clean_add (some y) {x} f c = record { fit = add-fits binary64 x y; sign = add_not_minus0 x y c.fit f c.sign }
+clean_add None f c = c
+clean_add (Some y) {x} f c = record { fit = add-fits binary64 x y; sign = add_not_minus0 x y c.fit f c.sign }
 
 -- ---- what either keeps through a bin's test
-in_bin_law : (P : Option Float → Type 0) → P none → (b : Option ℕ) (s : ℕ) (o : Option Float) → P o → P (in_bin b s o)
-in_bin_law P n none s o h = n
-in_bin_law P n (some b) s o h = go (eqb b s)
+in_bin_law : (P : Option Float → Type 0) → P None → (b : Option ℕ) (s : ℕ) (o : Option Float) → P o → P (in_bin b s o)
+in_bin_law P n None s o h = n
+in_bin_law P n (Some b) s o h = go (eqb b s)
   where
-    go : (t : Bool) → P (cond t o none)
+    go : (t : Bool) → P (cond t o None)
     go true = h
     go false = n
 
@@ -87,7 +87,7 @@ zero_mean (suc (suc e)) v h = tt
 zero_term : (k : Kind) (e : ℕ) → Idle (datum_term k e zero_datum)
 zero_term comp0_mean e = zero_mean e (zero_f false) refl
 zero_term component_sum_mean e = zero_mean e (add binary64 (zero_f false) (add binary64 (zero_f false) (zero_f false))) zero_sum
-zero_term (component_sum_histogram h) e = in_bin_law Idle tt (bin_of h (add binary64 (zero_f false) (add binary64 (zero_f false) (zero_f false)))) e (some (zero_f false)) refl
+zero_term (component_sum_histogram h) e = in_bin_law Idle tt (bin_of h (add binary64 (zero_f false) (add binary64 (zero_f false) (zero_f false)))) e (Some (zero_f false)) refl
 
 mean_fits : (e : ℕ) (v w : Float) → T (fits binary64 w) → Fitting (mean_term e v w)
 mean_fits zero v w h = mul-fits binary64 v w
@@ -97,21 +97,21 @@ mean_fits (suc (suc e)) v w h = tt
 term_fits : (k : Kind) (e : ℕ) (d : Datum) → T (fits binary64 d.weight) → Fitting (datum_term k e d)
 term_fits comp0_mean e d h = mean_fits e d.c0 d.weight h
 term_fits component_sum_mean e d h = mean_fits e (add binary64 d.c0 (add binary64 d.c1 d.c2)) d.weight h
-term_fits (component_sum_histogram v) e d h = in_bin_law Fitting tt (bin_of v (add binary64 d.c0 (add binary64 d.c1 d.c2))) e (some d.weight) h
+term_fits (component_sum_histogram v) e d h = in_bin_law Fitting tt (bin_of v (add binary64 d.c0 (add binary64 d.c1 d.c2))) e (Some d.weight) h
 
 -- ---- one pair, by what the lookup found
 module _ (k : Kind) (n s e : ℕ) (d : Datum) {x : Float} (c : Clean x) where
   same_add : (o : Option ℕ) → add_opt (pair_term k s e (binned_datum n o d)) x ≡ add_opt (pair_term k s e (pair_in (below n o) d)) x
-  same_add none = idle_add (in_bin (some 0) s (datum_term k e zero_datum)) (in_bin_law Idle tt (some 0) s (datum_term k e zero_datum) (zero_term k e)) c
-  same_add (some b) = go (ltb b n)
+  same_add None = idle_add (in_bin (Some 0) s (datum_term k e zero_datum)) (in_bin_law Idle tt (Some 0) s (datum_term k e zero_datum) (zero_term k e)) c
+  same_add (Some b) = go (ltb b n)
     where
-      go : (t : Bool) → add_opt (pair_term k s e (cond t (kept b d) dropped)) x ≡ add_opt (pair_term k s e (pair_in (cond t (some b) none) d)) x
+      go : (t : Bool) → add_opt (pair_term k s e (cond t (kept b d) dropped)) x ≡ add_opt (pair_term k s e (pair_in (cond t (Some b) None) d)) x
       go true = refl
       go false = refl
 
   pair_clean : (o : Option ℕ) → T (fits binary64 d.weight) → Clean (add_opt (pair_term k s e (pair_in o d)) x)
-  pair_clean none h = c
-  pair_clean (some b) h = clean_add (in_bin (some b) s (datum_term k e d)) (in_bin_law Fitting tt (some b) s (datum_term k e d) (term_fits k e d h)) c
+  pair_clean None h = c
+  pair_clean (Some b) h = clean_add (in_bin (Some b) s (datum_term k e d)) (in_bin_law Fitting tt (Some b) s (datum_term k e d) (term_fits k e d h)) c
 
 module _ (r : Run) (p : ℕ) where
   -- a whole run's worth of pairs
@@ -142,11 +142,11 @@ cross_range : {A : Type 0} (g h : ℕ → A) (l m : List ℕ) → flat_map (λ i
 cross_range g h [] m = refl
 cross_range g h (i ∷ l) m = λ t. sym (map-map h (λ b. (g i, b)) m) t ++ cross_range g h l m t
 
-filtered_fold : {A : Type 0} (f : A → Bool) (t : A → Option Float) (l : List A) (x : Float) → fold_at t x (filtered f l) ≡ fold_at (λ a. cond (f a) (t a) none) x l
+filtered_fold : {A : Type 0} (f : A → Bool) (t : A → Option Float) (l : List A) (x : Float) → fold_at t x (filtered f l) ≡ fold_at (λ a. cond (f a) (t a) None) x l
 filtered_fold f t [] x = refl
 filtered_fold f t (a ∷ l) x = go (f a) (λ y. filtered_fold f t l y)
   where
-    go : (b : Bool) → ((y : Float) → fold_at t y (filtered f l) ≡ fold_at (λ a. cond (f a) (t a) none) y l) → fold_at t x (cond b (a ∷ filtered f l) (filtered f l)) ≡ fold_at (λ a. cond (f a) (t a) none) (add_opt (cond b (t a) none) x) l
+    go : (b : Bool) → ((y : Float) → fold_at t y (filtered f l) ≡ fold_at (λ a. cond (f a) (t a) None) y l) → fold_at t x (cond b (a ∷ filtered f l) (filtered f l)) ≡ fold_at (λ a. cond (f a) (t a) None) (add_opt (cond b (t a) None) x) l
     go true h = h (add_opt (t a) x)
     go false h = h x
 

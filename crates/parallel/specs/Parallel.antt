@@ -1,5 +1,5 @@
 -- The Rust's way of a run (parallel.rs, parallel_serial.rs): a binless pair goes to bin 0 as a zero datum, and a team takes its segment of the first points or of the offsets. Definitions only.
-use Rattle.std.proofs.Math.Option.{Option, none, some}
+use Rattle.std.specs.Prelude.{Option, None, Some}
 use Rattle.std.specs.Prelude.{List, [], ◌∷◌, map, Bool, false, cond, ℕ, suc, ◌-◌, ltb, length, take, drop, Float}
 use Rattle.std.specs.Float.{binary64}
 use Rattle.std.specs.Float.Ieee.{add}
@@ -17,8 +17,8 @@ zero_datum = record { c0 = zero_f false; c1 = zero_f false; c2 = zero_f false; w
 
 -- `BinnedDatum`: no bin gives `zeroed`, a bin that is no state's is dropped when it is applied
 abbrev pub binned_datum : ℕ → Option ℕ → Datum → Pair
-binned_datum states none d = kept 0 zero_datum
-binned_datum states (some b) d = cond (ltb b states) (kept b d) dropped
+binned_datum states None d = kept 0 zero_datum
+binned_datum states (Some b) d = cond (ltb b states) (kept b d) dropped
 
 -- the segment of a list that team t of so many takes
 abbrev pub team_part : {A : Type 0} → List A → ℕ → ℕ → List A

@@ -1,6 +1,7 @@
 -- What is built of edges and kinds, for each way through the code; of accepted ones it is what the reducer's laws speak of.
 use mathlib.Core.Path.{◌≡◌, refl, sym, ap, ◌∙◌}
-use mathlib.Core.Option.{none, some, some-injective, some-ne-none, none-ne-some}
+use Rattle.std.specs.Prelude.{None, Some}
+use Rattle.std.proofs.lemmas.Option.{none-some, same_Some}
 use mathlib.Core.Bool.{Bool, true, false, cond}
 use mathlib.Core.List.{List, ◌∷◌}
 use Prim.Native.Nat.{ℕ}
@@ -10,9 +11,11 @@ use Rattle.definitions.specs.Bins.{regular}
 use Rattle.definitions.specs.Reducer.{state_kind}
 use Rattle.definitions.specs.Rules.{rule, refusal, if_accepted, over_state, edges_call_rules, kind_rules}
 use Rattle.bins.specs.declared.RegularBinEdges.{RegularBinEdges}
-use Rattle.bins.specs.declared.RegularNew.{RegularNew}
-use Rattle.bins.specs.declared.RegularNew.TheVariants as new
-use Rattle.bins.specs.Answers.{regular_of, new_edges}
+use Rattle.std.specs.Result.{result_ok}
+use Rattle.std.specs.declared.result.Result.{Result}
+use Rattle.std.specs.declared.result.Result.TheVariants.{Ok, Err}
+use Rattle.refusals.specs.declared.Refusal.{Refusal}
+use Rattle.bins.specs.Answers.{regular_of}
 use Rattle.reducer.specs.declared.Edges.{Edges}
 use Rattle.reducer.specs.declared.Edges.TheVariants.{Regular, Irregular}
 use Rattle.reducer.specs.declared.Kind.{Kind}
@@ -24,20 +27,20 @@ use Rattle.reducer.specs.Readings.{edges_of, kind_of}
 use Rattle.reducer.specs.Consume.{made_edges, made}
 use Rattle.parallel_serial.specs.Drive.{built_edges, built_reducer}
 
-module _ (edges : Edges) (min max : Float) (n : ℕ) (m : edges ≡ Regular min max n) (r : RegularNew)
-    (q : new_edges r ≡ if_accepted (edges_call_rules (regular min max n)) (some (regular_of min max n)) none) where
-  pub build_made : (e : RegularBinEdges) → r ≡ new.Made e → built.Regular e ≡ built_edges edges
-  build_made e t = go (eqb (refusal (edges_call_rules (regular min max n))) 0) (sym (ap new_edges t) ∙ q) ∙ (rw m)
+module _ (edges : Edges) (min max : Float) (n : ℕ) (m : edges ≡ Regular min max n) (r : Result RegularBinEdges Refusal)
+    (q : result_ok r ≡ if_accepted (edges_call_rules (regular min max n)) (Some (regular_of min max n)) None) where
+  pub build_made : (e : RegularBinEdges) → r ≡ Ok e → built.Regular e ≡ built_edges edges
+  build_made e t = go (eqb (refusal (edges_call_rules (regular min max n))) 0) (sym (ap result_ok t) ∙ q) ∙ (rw m)
     where
-      go : (b : Bool) → some e ≡ cond b (some (regular_of min max n)) none → built.Regular e ≡ cond b (built.Regular (regular_of min max n)) built.Irregular
-      go true k = ap built.Regular (some-injective e (regular_of min max n) k)
-      go false k = absurd (some-ne-none e k)
+      go : (b : Bool) → Some e ≡ cond b (Some (regular_of min max n)) None → built.Regular e ≡ cond b (built.Regular (regular_of min max n)) built.Irregular
+      go true k = ap built.Regular (same_Some e (regular_of min max n) k)
+      go false k = absurd (none-some e (sym k))
 
-  pub build_refused : (x : ℕ) → r ≡ new.Refused x → built.Irregular ≡ built_edges edges
-  build_refused x t = go (eqb (refusal (edges_call_rules (regular min max n))) 0) (sym (ap new_edges t) ∙ q) ∙ (rw m)
+  pub build_refused : (x : Refusal) → r ≡ Err x → built.Irregular ≡ built_edges edges
+  build_refused x t = go (eqb (refusal (edges_call_rules (regular min max n))) 0) (sym (ap result_ok t) ∙ q) ∙ (rw m)
     where
-      go : (b : Bool) → none ≡ cond b (some (regular_of min max n)) none → built.Irregular ≡ cond b (built.Regular (regular_of min max n)) built.Irregular
-      go true k = absurd (none-ne-some (regular_of min max n) k)
+      go : (b : Bool) → None ≡ cond b (Some (regular_of min max n)) None → built.Irregular ≡ cond b (built.Regular (regular_of min max n)) built.Irregular
+      go true k = absurd (none-some (regular_of min max n) k)
       go false k = refl
 
 pub build_histogram : (kind : Kind) (e : Edges) (b : BuiltEdges) → kind ≡ ComponentSumHistogram e → b ≡ built_edges e → reducer.ComponentSumHistogram b ≡ built_reducer kind

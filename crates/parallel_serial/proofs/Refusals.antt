@@ -1,6 +1,11 @@
 -- The refusal of a run is the definitions', what follows where there is none, and what a run then answers and leaves.
 use mathlib.Core.Path.{◌≡◌, refl, sym, ap, ◌∙◌}
-use mathlib.Core.Option.{Option}
+use Rattle.std.specs.Prelude.{IsErrAnd}
+use Rattle.std.specs.declared.result.Result.{Result}
+use Rattle.std.specs.declared.result.Result.TheVariants.{Ok, Err}
+use Rattle.refusals.specs.declared.Refusal.{Refusal}
+use Rattle.refusals.specs.Numbers.{refusal_number, number_of}
+use Rattle.refusals.proofs.Answers.{number_nonzero, number_carried}
 use mathlib.Core.Bool.{Bool, true, false, not, cond, ◌&&◌, ◌||◌, true≢false}
 use mathlib.Core.List.{List, ◌∷◌}
 use Prim.Native.Nat.{ℕ, ◌*◌, ◌≤◌}
@@ -8,14 +13,14 @@ use native.Mathlib.Omega.{arith}
 use lib.Dec.{T, leb, ltb, eqb}
 use lib.ListN.{length}
 use lib.Ieee.{Float}
-use borrow.Author.Tests.{ltb-false, leb-true, eqb-true, eqb-false, eq-eqb, ne_eqb}
+use borrow.Author.Tests.{ltb-false, leb-true, eqb-true, eqb-false, ne_eqb}
 use Rattle.definitions.specs.Bins as definitions
 use Rattle.definitions.specs.Bins.{bins}
 use Rattle.definitions.specs.Reducer.{state_kind, kind_size}
 use Rattle.definitions.specs.Reducer as kinds
 use Rattle.definitions.specs.Run.{Sets, one_points, two_points, one_block, two_blocks, Run, merged}
 use Rattle.definitions.specs.Rules as rules
-use Rattle.definitions.specs.Rules.{rule, refusal, over_sets, over_state, over_pack, edge_rules, edges_call_rules, kind_rules, set_rules, pair_rules, run_rules, step, met}
+use Rattle.definitions.specs.Rules.{rule, refusal, over_sets, over_state, over_pack, edge_rules, edges_call_rules, kind_rules, set_rules, pair_rules, run_rules, step}
 use Rattle.laws.proofs.Refusals.{numbered, or_else, refusal_append}
 use Rattle.state_refusals.proofs.Refusals.{kind_over}
 use Rattle.reducer.specs.declared.Edges.{Edges}
@@ -141,24 +146,33 @@ accepted over sets pairs e k shape len h =
       };
     }
 
--- ---- what a run answers and leaves; x is what its refusal function answered
-module _ (sets : Sets) (edges : Edges) (list : List Float) (kind : Kind) (value_edges : List Float) (op : PairOperation) (shape : Shape) (s : List Float) (x : ℕ)
-    (h : x ≡ sets_number sets (edges_of edges list) (kind_of kind value_edges) shape (length s)) where
+-- ---- what a run answers and leaves; a is what its refusal function answered
+module _ (sets : Sets) (edges : Edges) (list : List Float) (kind : Kind) (value_edges : List Float) (op : PairOperation) (shape : Shape) (s : List Float) (a : Result (Unit {0}) Refusal)
+    (h : number_of a ≡ sets_number sets (edges_of edges list) (kind_of kind value_edges) shape (length s)) where
   abbrev this : Run
   this = sets_run sets edges list kind value_edges op shape
 
-  own_number : x ≡ refusal (run_rules this (length s))
+  own_number : number_of a ≡ refusal (run_rules this (length s))
   unfolding sets_number sets_run
   own_number = h ∙ run_number_law sets (op_of op) (edges_of edges list) (kind_of kind value_edges) shape (length s)
 
-  -- o is the outcome's number
-  pub answer : (o : Option ℕ) → o ≡ met x → o ≡ met (refusal (run_rules this (length s)))
-  answer o e = e ∙ ap met own_number
+  module _ (r : Refusal) (e : a ≡ Err r) where
+    refused_number : refusal_number r ≡ refusal (run_rules this (length s))
+    refused_number = sym (ap number_of e) ∙ own_number
 
-  pub stays : (x ≡ 0 → ⊥) → s ≡ step this s
-  unfolding rules.step rules.accepted
-  stays z = rw (← own_number, ne_eqb x 0 z)
+    pub refused_answer : (b : Result (Unit {0}) Refusal) → IsErrAnd b (λ t. t ≡ r) → number_of b ≡ refusal (run_rules this (length s))
+    refused_answer b k = number_carried b r k ∙ refused_number
 
-  pub done : x ≡ 0 → (q : List Float) → q ≡ merged this s → q ≡ step this s
-  unfolding rules.step rules.accepted
-  done z q e = e ∙ (rw (← own_number, eq-eqb x 0 z))
+    pub refused_stays : s ≡ step this s
+    unfolding rules.step rules.accepted
+    refused_stays = rw (← refused_number, ne_eqb (refusal_number r) 0 (number_nonzero r))
+
+  module _ (v : Unit {0}) (e : a ≡ Ok v) where
+    pub accepted_answer : ◌≡◌ {A = ℕ} 0 (refusal (run_rules this (length s)))
+    accepted_answer = sym (ap number_of e) ∙ own_number
+
+    pub accepted_step : (q : List Float) → q ≡ merged this s → q ≡ step this s
+    unfolding rules.step rules.accepted
+    accepted_step q m = m ∙ (rw (← accepted_answer))
+
+pub ruleset run_answers = (refused_answer, refused_stays, accepted_answer, accepted_step)

@@ -17,16 +17,25 @@ use Rattle.laws.proofs.Places.{bump}
 use Rattle.state.proofs.Packs.{merge_turn, merge_done}
 use Rattle.parallel_serial.specs.Drive.{zero_pack, summed, added_scratch}
 
--- a small scratch holds the same zeros as a large one
-pub part_taken : (n m : ℕ) (z : List Float) → n ≤ m → z ≡ take m zero_pack → take n z ≡ take n zero_pack
-part_taken n m z h e = ap (take n) e ∙ take-take n m zero_pack h
-
--- ---- the part that is lent
 take_replicate : (n k : ℕ) (x : Float) → k ≤ n → take k (replicate n x) ≡ replicate k x
 take_replicate n zero x h = refl
 take_replicate zero (suc k) x h = absurd (not-suc-le-zero h)
 take_replicate (suc n) (suc k) x h = ap {B = List Float} (λ r. x ∷ r) (take_replicate n k x (le_of_suc-le-suc h))
 
+-- zeros as a part of the largest scratch
+pub zeros_are : (m : ℕ) → m ≤ 4096 → (z : List Float) → z ≡ replicate m (zero_f false) → z ≡ take m zero_pack
+unfolding zero_pack
+zeros_are m h z e = e ∙ sym (take_replicate 4096 m (zero_f false) h)
+
+pub zeros_full : (z : List Float) → z ≡ replicate 4096 (zero_f false) → z ≡ zero_pack
+unfolding zero_pack
+zeros_full z e = e
+
+-- a small scratch holds the same zeros as a large one
+pub part_taken : (n m : ℕ) (z : List Float) → n ≤ m → z ≡ take m zero_pack → take n z ≡ take n zero_pack
+part_taken n m z h e = ap (take n) e ∙ take-take n m zero_pack h
+
+-- ---- the part that is lent
 module _ (z : List Float) (n : ℕ) (h : n ≤ 4096) (e : z ≡ zero_pack) where
   all : length z ≡ 4096
   unfolding zero_pack

@@ -1,17 +1,14 @@
 // What the runs share of drive_reduce: the shape, what is built of edges and kinds, the scratch pack and its addition to the caller's.
 #![tactic(auto)]
 
-ghost use Rattle.std.specs.Prelude.{◌≡◌, ◌+◌, ◌-◌, ◌<◌, ◌≤◌, length, take};
+ghost use Rattle.std.specs.Prelude.{◌≡◌, ◌+◌, ◌-◌, ◌<◌, ◌≤◌, length};
 ghost use Rattle.std.specs.Float.{binary64};
 ghost use Rattle.std.specs.Float.Ieee.{add};
 ghost use Rattle.definitions.specs.Lists.{at};
-ghost use Rattle.definitions.specs.Rules.{met};
-ghost use Rattle.state.specs.Readings.{number_of};
-ghost use Rattle.parallel_serial.specs.Drive.{zero_pack, summed, added_scratch, built_edges, built_reducer};
+ghost use Rattle.parallel_serial.specs.Drive.{summed, added_scratch, built_edges, built_reducer};
 
-use bins::{RegularBinEdges, RegularNew};
+use bins::RegularBinEdges;
 use reducer::{BuiltEdges, Edges, Kind, PairOperation, Reducer};
-use state::Outcome;
 
 // The pack's shape as the caller states it, and the team.
 #[derive(Clone, Copy)]
@@ -38,8 +35,8 @@ pub fn build_edges(edges: Edges) -> BuiltEdges
 {
     match edges {
         Edges::Regular(min, max, n) => match RegularBinEdges::new(min, max, n) {
-            RegularNew::Made(e) => BuiltEdges::Regular(e),
-            RegularNew::Refused(_) => BuiltEdges::Irregular,
+            Ok(e) => BuiltEdges::Regular(e),
+            Err(_) => BuiltEdges::Irregular,
         },
         Edges::Irregular => BuiltEdges::Irregular,
     }
@@ -56,25 +53,6 @@ pub fn build_reducer(kind: Kind) -> Reducer
 }
 
 // ---- scratch
-
-pub fn zeros() -> [f64; 4096]
-    ensures { result ≡ zero_pack }
-{
-    [0.0; 4096]
-}
-
-// For runs that use no more: zeroing all takes longer than a small run.
-pub fn zeros_512() -> [f64; 512]
-    ensures { result ≡ take 512 zero_pack }
-{
-    [0.0; 512]
-}
-
-pub fn zeros_64() -> [f64; 64]
-    ensures { result ≡ take 64 zero_pack }
-{
-    [0.0; 64]
-}
 
 fn sum_at(scratch: &[f64], pack: &[f64], i: usize) -> f64
     requires { (i < length scratch.now) × (i < length pack.now) }
@@ -140,20 +118,9 @@ pub fn add_scratch(scratch: &[f64], pack: &mut [f64])
 {
     if scratch.len() <= pack.len() {
         let mut i = 0;
+        // A `while`: the step is a block's length, or less at the end, and `add_next` says which; no `for` has such a step.
         while i < scratch.len() {
             i = add_next(scratch, &mut *pack, i);
         }
     }
-}
-
-// ---- what a run answers
-
-// The number of its refusal, 0 for none, as an outcome.
-pub fn outcome_of(number: u32) -> Outcome
-    ensures { number_of result ≡ met number }
-{
-    if number == 0 {
-        return Outcome::Done;
-    }
-    Outcome::Refused(number)
 }

@@ -4,8 +4,9 @@ use mathlib.Core.List.{List, [], ◌∷◌, ◌++◌, map, map-append, append_as
 use Prim.Native.Nat.{ℕ, zero, suc, ◌+◌, ◌≤◌}
 use native.Mathlib.Nat.{add-zero, zero-add}
 use native.Mathlib.Omega.{arith}
-use lib.ListN.{length, set, take, drop, length-map, length-append}
-use lib.Seq.{sets, set_comm, length-sets, sets-eq, take_at, drop-length}
+use lib.ListN.{length, set, take, drop, length-map, length-append, length-drop, take-append-drop}
+use lib.Seq.{sets, set_comm, length-sets, sets-eq, take_at, drop-length, drop-drop, drop-append-le, length-take-le}
+use borrow.Rule.Slice.PartMut.{mid_of, put_mid}
 use Rattle.definitions.specs.Lists.{range, upto, flat_map}
 use Rattle.laws.proofs.Lists.{range_length}
 use Rattle.record_bytes.specs.Stores.{stored}
@@ -49,6 +50,29 @@ module _ {A : Type 0} where
   pub stored_whole : (l s : List A) → length l ≡ length s → stored 0 l s ≡ l
   stored_whole l s e = stored_front l s (omega arith) ∙ ap (λ (n : ℕ). l ++ drop n s) e ∙ ap (λ (r : List A). l ++ r) (drop-length s) ∙ append-nil l
 
+  -- ---- into a part of a slice: at its front, from place a on
+  pub stored_part : (n : ℕ) (l s : List A) → length l ≡ n → n ≤ length s → l ++ drop n s ≡ stored 0 l s
+  stored_part n l s e h = ap (λ (m : ℕ). l ++ drop m s) (sym e) ∙ sym (stored_front l s (omega arith))
+
+  pub stored_middle : (a k : ℕ) (l s : List A) → length l ≡ k → a + k ≤ length s → put_mid a k s l ≡ stored a l s
+  unfolding stored
+  stored_middle a k l s e h =
+      ap (λ (r : List A). take a s ++ (l ++ r)) (drop-drop k a s ∙ ap (λ (m : ℕ). drop m s) (omega arith)) ∙ sym (append_assoc (take a s) l (drop (a + length l) s)) ∙ sym (sets-eq l s a (omega arith))
+
+  -- what was put at the front of a part, of the whole
+  pub stored_inside : (a k : ℕ) (l s r : List A) → length l ≤ k → a + k ≤ length s → r ≡ stored 0 l (mid_of a k s) → put_mid a k s r ≡ stored a l s
+  unfolding stored
+  stored_inside a k l s r f h e =
+      let d = drop a s in
+      let g : k ≤ length d = omega (arith, length-drop a s) in
+      let i : length (take k d) ≡ k = length-take-le k d g in
+      let w : drop (length l) (take k d) ++ drop k d ≡ drop (a + length l) s =
+      sym (drop-append-le (length l) (take k d) (drop k d) (omega arith)) ∙ ap (drop (length l)) (take-append-drop k d) ∙ drop-drop (length l) a s ∙ ap (λ (m : ℕ). drop m s) (omega arith) in
+      ap (λ (q : List A). take a s ++ (q ++ drop k d)) (e ∙ stored_front l (take k d) (omega arith))
+      ∙ ap (λ (q : List A). take a s ++ q) (append_assoc l (drop (length l) (take k d)) (drop k d) ∙ ap (λ (q : List A). l ++ q) w)
+      ∙ sym (append_assoc (take a s) l (drop (a + length l) s))
+      ∙ sym (sets-eq l s a (omega arith))
+
   -- ---- what is known of one list, of another that equals it; and of a list that is empty
   pub same_count : (l m : List A) (n : ℕ) → n ≡ length l → l ≡ m → n ≡ length m
   same_count l m n f e = f ∙ ap length e
@@ -71,13 +95,12 @@ range_last k (suc n) = let e : suc k + n ≡ k + suc n = omega arith in ap (λ (
 upto_last : (n : ℕ) → upto (n + 1) ≡ upto n ++ (n ∷ [])
 upto_last n = let e : n + 1 ≡ suc n = omega arith in ap upto e ∙ range_last 0 n ∙ ap (λ (i : ℕ). upto n ++ (i ∷ [])) (zero-add n)
 
-module _ {A : Type 0} (f : ℕ → A) (k : ℕ) (s : List A) where
+module _ {A : Type 0} (f : ℕ → A) (s : List A) where
   -- a table, one entry a turn
-  pub table_turn : (i : ℕ) (q : List A) (x : A) → x ≡ f i → q ≡ stored k (map f (upto i)) s → set q (k + i) x ≡ stored k (map f (upto (i + 1))) s
-  unfolding stored
+  pub table_turn : (i : ℕ) (q : List A) (x : A) → x ≡ f i → q ≡ stored 0 (map f (upto i)) s → set q i x ≡ stored 0 (map f (upto (i + 1))) s
   table_turn i q x e inv =
-      let d : i ≡ length (map f (upto i)) = sym (length-map (upto i) f ∙ range_length 0 i) in
-      (λ j. set (inv j) (k + d j) (e j)) ∙ stored_append k (map f (upto i)) (f i ∷ []) s ∙ ap (λ (l : List A). stored k l s) (sym (ap (map f) (upto_last i) ∙ map-append f (upto i) (i ∷ [])))
+      let d : 0 + length (map f (upto i)) ≡ i = zero-add (length (map f (upto i))) ∙ length-map (upto i) f ∙ range_length 0 i in
+      (λ j. set (inv j) i (e j)) ∙ stored_last 0 (map f (upto i)) (f i) s i d ∙ ap (λ (l : List A). stored 0 l s) (sym (ap (map f) (upto_last i) ∙ map-append f (upto i) (i ∷ [])))
 
 module _ {A : Type 0} (g : ℕ → List A) where
   flat_append : (l m : List ℕ) → flat_map g (l ++ m) ≡ flat_map g l ++ flat_map g m

@@ -1,10 +1,11 @@
 // Record files as bytes: little-endian numbers, points and edges out of records, and a curve into them.
 #![tactic(auto)]
 
-ghost use Rattle.std.specs.Prelude.{◌≡◌, ◌+◌, ◌*◌, ◌^◌, ◌<◌, ◌≤◌, length, get_or};
-ghost use Rattle.definitions.specs.Records.{little_endian, float_at};
+ghost use Rattle.std.specs.Prelude.{◌≡◌, ◌+◌, ◌*◌, ◌^◌, ◌<◌, ◌≤◌, length};
+ghost use Rattle.definitions.specs.Records.{float_at};
 ghost use Rattle.record_bytes.specs.Stores.{stored};
-ghost use Rattle.record_bytes.specs.Columns.{numbers, three_numbers, number_bytes, bin_bytes, curve_records, edges_read, three_read, weights_read, records_fitting};
+ghost use Rattle.record_bytes.specs.Columns.{numbers, three_numbers, number_bytes, bin_bytes, curve_records};
+ghost use Rattle.record_bytes.specs.Columns.{edges_read, three_read, weights_read, records_fitting};
 
 pub const POINT_BYTES: usize = 56;
 
@@ -16,60 +17,32 @@ pub const MAX_EDGES: usize = 257;
 
 // ---- numbers
 
-fn byte_at(b: &[u8], k: usize) -> u64
-    requires { k < length b.now }
-    ensures { (result ≡ get_or b.now k 0) × (result < 256) }
-{
-    b[k] as u64
-}
-
-// The little-endian word at place k, from its last byte down.
-fn word_at(b: &[u8], k: usize) -> u64
-    requires { k + 8 ≤ length b.now }
-    ensures { result ≡ little_endian 8 b.now k }
-{
-    let mut word = 0;
-    let mut i = 8;
-    while i > 0 {
-        i -= 1;
-        word = byte_at(b, k + i) + 256 * word;
-    }
-    word
-}
-
 // The number that stands at place k.
 fn float_at(b: &[u8], k: usize) -> f64
     requires { k + 8 ≤ length b.now }
     ensures { result ≡ float_at b.now k }
 {
-    floats::from_bits(word_at(b, k))
+    let bytes = <[u8; 8]>::try_from(&b[k..k + 8]).unwrap();
+    floats::from_bits(u64::from_le_bytes(bytes))
 }
 
-// The number's eight bytes, the lowest first, from place k on.
-fn store_float(b: &mut [u8], k: usize, x: f64)
-    requires { k + 8 ≤ length b.old }
-    ensures { b.new ≡ stored k (number_bytes x) b.old }
+// The number's eight bytes, the lowest first.
+fn store_float(b: &mut [u8], x: f64)
+    requires { length b.old ≡ 8 }
+    ensures { b.new ≡ number_bytes x }
 {
-    let mut rest = floats::to_bits(x);
-    let mut i = 0;
-    while i < 8 {
-        b[k + i] = (rest % 256) as u8;
-        rest = rest / 256;
-        i += 1;
-    }
+    b.copy_from_slice(&floats::to_bits(x).to_le_bytes());
 }
 
 // ---- records
 
-// The number at byte `first` of each of n records of `size` bytes, put into out from place k on.
-fn decode(b: &[u8], size: usize, first: usize, n: usize, out: &mut [f64], k: usize)
-    requires { (first + 8 ≤ size) × (n * size < 2 ^ 63) × (n * size ≤ length b.now) × (k + n ≤ length out.old) }
-    ensures { out.new ≡ stored k (numbers size first n b.now) out.old }
+// The number at byte `first` of each record of `size` bytes, as many as out has room for.
+fn decode(b: &[u8], size: usize, first: usize, out: &mut [f64])
+    requires { (first + 8 ≤ size) × (length out.old * size < 2 ^ 63) × (length out.old * size ≤ length b.now) }
+    ensures { out.new ≡ numbers size first (length out.old) b.now }
 {
-    let mut i = 0;
-    while i < n {
-        out[k + i] = float_at(b, i * size + first);
-        i += 1;
+    for (i, x) in out.iter_mut().enumerate() {
+        *x = float_at(b, i * size + first);
     }
 }
 
@@ -78,18 +51,18 @@ fn decode_three(b: &[u8], first: usize, n: usize, out: &mut [f64])
     requires { (first + 24 ≤ 56) × (n ≤ 1024) × (n * 56 ≤ length b.now) × (3 * n ≤ length out.old) }
     ensures { out.new ≡ stored 0 (three_numbers first n b.now) out.old }
 {
-    decode(b, POINT_BYTES, first, n, out, 0);
-    decode(b, POINT_BYTES, first + 8, n, out, n);
-    decode(b, POINT_BYTES, first + 16, n, out, 2 * n);
+    decode(b, POINT_BYTES, first, &mut out[..n]);
+    decode(b, POINT_BYTES, first + 8, &mut out[n..2 * n]);
+    decode(b, POINT_BYTES, first + 16, &mut out[2 * n..3 * n]);
 }
 
-// A bin's record, from place k on.
-fn encode_bin(b: &mut [u8], k: usize, total: f64, weight: f64)
-    requires { k + 16 ≤ length b.old }
-    ensures { b.new ≡ stored k (bin_bytes total weight) b.old }
+// A bin's record.
+fn encode_bin(b: &mut [u8], total: f64, weight: f64)
+    requires { length b.old ≡ 16 }
+    ensures { b.new ≡ bin_bytes total weight }
 {
-    store_float(b, k, total);
-    store_float(b, k + 8, weight);
+    store_float(&mut b[..8], total);
+    store_float(&mut b[8..], weight);
 }
 
 // The records of n bins, from b's front on.
@@ -97,22 +70,21 @@ fn encode(pack: &[f64], n: usize, b: &mut [u8])
     requires { (n * 2 ≤ length pack.now) × (n * 16 ≤ length b.old) }
     ensures { b.new ≡ stored 0 (curve_records n n pack.now) b.old }
 {
-    let mut s = 0;
-    while s < n {
-        encode_bin(b, s * 16, pack[s], pack[n + s]);
-        s += 1;
+    for s in 0..n {
+        encode_bin(&mut b[s * 16..(s + 1) * 16], pack[s], pack[n + s]);
     }
 }
 
 // ---- files
 
-// The two below promise an array's length besides, since it comes back without one.
+// The two below take arrays, since a slice would have to be asked for its length, and promise that too, since an array comes back without one.
 // The edges of a file at the front of out, unless they are too many.
 pub fn decode_edges(b: &[u8], out: &mut [f64; 257])
     ensures { (out.new ≡ stored 0 (edges_read b.now) out.old) × (length out.new ≡ length out.old) }
 {
     if b.len() <= MAX_EDGES * EDGE_BYTES {
-        decode(b, EDGE_BYTES, 0, b.len() / EDGE_BYTES, out, 0);
+        let n = b.len() / EDGE_BYTES;
+        decode(b, EDGE_BYTES, 0, &mut out[..n]);
     }
 }
 
@@ -131,7 +103,7 @@ pub fn decode_points(
         let n = b.len() / POINT_BYTES;
         decode_three(b, 0, n, positions);
         decode_three(b, 24, n, values);
-        decode(b, POINT_BYTES, 48, n, weights, 0);
+        decode(b, POINT_BYTES, 48, &mut weights[..n]);
     }
 }
 

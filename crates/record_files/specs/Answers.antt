@@ -1,6 +1,6 @@
 -- What is known of an answer that depends on files.
 use Rattle.std.specs.Prelude.{◌≡◌, List, ℕ, ◌≤◌, length}
-use Rattle.std.proofs.Math.Option.{Option}
+use Rattle.std.specs.Prelude.{Option}
 use Rattle.definitions.specs.Records.{program_text}
 use Rattle.curve_text.specs.Text.{fitted}
 

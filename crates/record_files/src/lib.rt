@@ -1,47 +1,36 @@
 // Record files by name: what the program prints of two of them.
 #![tactic(auto)]
 
-ghost use Rattle.std.specs.Prelude.{◌≤◌};
+ghost use Rattle.std.specs.Prelude.{IfOk};
 ghost use Rattle.io.specs.Counts.{IsPrefixLen};
 ghost use Rattle.record_files.specs.Answers.{TextOf};
 
-use std::io::Read;
+use std::io::{Error, Read};
 use std::rt::Files;
 use std::{fs, str};
 
-// How many bytes of a buffer a file filled, and whether it could be read.
-#[derive(Clone, Copy)]
-struct Filled {
-    read: bool,
-    n: usize,
-}
-
-// Reads to the file's end, or until buf is full.
-fn read_all<F: Read>(file: &mut F, buf: &mut [u8]) -> Filled
-    ensures { IsPrefixLen result.n buf.new }
+// Reads to the file's end, or until buf is full; answers how many bytes.
+fn read_all<F: Read>(file: &mut F, buf: &mut [u8]) -> Result<usize, Error>
+    ensures { IfOk result (λ n. IsPrefixLen n buf.new) }
 {
     let mut n = 0;
+    // A `while`: each read takes as many bytes as it gives, which no `for` counts.
     while n < buf.len() {
-        match file.read(&mut buf[n..]) {
-            Ok(0) => return Filled { read: true, n },
-            Ok(more) => n += more,
-            Err(_) => return Filled { read: false, n },
+        let more = file.read(&mut buf[n..])?;
+        if more == 0 {
+            break;
         }
+        n += more;
     }
-    Filled { read: true, n }
+    Ok(n)
 }
 
-// A name that is no text, and so no path of `std`, is a file that can't be read.
-fn read_file(files: &impl Files, name: &[u8], buf: &mut [u8]) -> Filled
-    ensures { IsPrefixLen result.n buf.new }
-{
-    let Ok(path) = str::from_utf8(name) else {
-        return Filled { read: false, n: 0 };
-    };
-    match fs::open(files, path) {
-        Ok(mut file) => read_all(&mut file, buf),
-        Err(_) => Filled { read: false, n: 0 },
-    }
+// The bytes of a file, or nothing if it can't be read. A name that is no text is no path of `std`.
+fn read_file<'a>(files: &impl Files, name: &[u8], buf: &'a mut [u8]) -> Option<&'a [u8]> {
+    let path = str::from_utf8(name).ok()?;
+    let mut file = fs::open(files, path).ok()?;
+    let n = read_all(&mut file, buf).ok()?;
+    Some(&buf[..n])
 }
 
 // What the program prints of two files, by their names. The buffers are longer than the files may be, so that one that is too long is seen as such.
@@ -55,9 +44,7 @@ pub fn text_of_files(
 {
     let mut points = io::large_buffer();
     let mut edges = io::buffer();
-    let p = read_file(files, points_name, &mut points);
-    let e = read_file(files, edges_name, &mut edges);
-    let n = p.n;
-    let m = e.n;
-    records::program_text(p.read, &points[..n], e.read, &edges[..m], out)
+    let points = read_file(files, points_name, &mut points);
+    let edges = read_file(files, edges_name, &mut edges);
+    records::program_text(points, edges, out)
 }

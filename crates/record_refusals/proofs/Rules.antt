@@ -1,12 +1,14 @@
 -- The rules of a curve, one after the other as the code judges them.
 use mathlib.Core.Path.{◌≡◌, refl, sym, ap, ◌∙◌}
+use mathlib.Core.Bool.{true, false}
 use mathlib.Core.List.{List, ◌++◌}
-use Prim.Native.Nat.{ℕ, ◌-◌, ◌*◌, ◌/◌, ◌%◌, ◌≤◌, ◌<◌}
+use Prim.Native.Nat.{ℕ, ◌-◌, ◌*◌, ◌/◌, ◌%◌, ◌≤◌}
 use native.Mathlib.Nat.{add-zero, le_refl, mul-mod_left, mul-div_cancel}
 use native.Mathlib.Omega.{arith}
+use lib.Dec.{eqb}
 use lib.ListN.{length, take, length-append}
 use lib.Ieee.{Float}
-use borrow.Author.Tests.{lt-ltb, le-ltb, eq-eqb, ne_eqb}
+use borrow.Author.Tests.{le-ltb, eq-eqb, ne_eqb}
 use Rattle.definitions.specs.Bins.{bins, irregular}
 use Rattle.definitions.specs.Rules.{Rule, refusal, point_rules, irregular_rules, edges_call_rules}
 use Rattle.definitions.specs.Records.{column, record_points, record_edges, curve_bins}
@@ -40,9 +42,6 @@ pub bins_are : (e : List ℕ) → length e / 8 - 1 ≡ curve_bins e
 unfolding bins
 bins_are e = ap (λ (n : ℕ). n - 1) (sym (edges_length e))
 
-pub bins_none : (e : List ℕ) → length e / 8 ≡ 0 → 0 ≡ curve_bins e
-bins_none e h = omega (arith, bins_are e)
-
 -- ---- points: of records only the first rule can be broken
 column_length : (b : List ℕ) (k : ℕ) → length (column b k) ≡ length b / 56
 unfolding numbers
@@ -65,36 +64,10 @@ points_pass b l h =
       eq-eqb (length (column b 6)) (length b / 56) (column_length b 6),
     )
 
--- ---- all
-module _ (p e : List ℕ) where
-  pub points_over : 57344 < length p → 7 ≡ curve_number p e
-  unfolding curve_number
-  points_over h = rw (lt-ltb 57344 (length p) h)
-
-  module _ (a : length p ≤ 57344) where
-    pub edges_over : 2056 < length e → 7 ≡ curve_number p e
-    unfolding curve_number
-    edges_over h = rw (le-ltb 57344 (length p) a, lt-ltb 2056 (length e) h)
-
-    module _ (b : length e ≤ 2056) where
-      pub points_cut : (length p % 56 ≡ 0 → ⊥) → 27 ≡ curve_number p e
-      unfolding curve_number
-      points_cut h = rw (le-ltb 57344 (length p) a, le-ltb 2056 (length e) b, ne_eqb (length p % 56) 0 h)
-
-      module _ (c : length p % 56 ≡ 0) where
-        pub edges_cut : (length e % 8 ≡ 0 → ⊥) → 27 ≡ curve_number p e
-        unfolding curve_number
-        edges_cut h = rw (le-ltb 57344 (length p) a, le-ltb 2056 (length e) b, eq-eqb (length p % 56) 0 c, ne_eqb (length e % 8) 0 h)
-
-        module _ (d : length e % 8 ≡ 0) where
-          pub no_points : length p ≡ 0 → 1 ≡ curve_number p e
-          unfolding curve_number
-          no_points h =
-              let k : length p / 56 ≡ 0 = omega arith in
-              rw (le-ltb 57344 (length p) a, le-ltb 2056 (length e) b, eq-eqb (length p % 56) 0 c, eq-eqb (length e % 8) 0 d, eq-eqb (length p / 56) 0 k)
-
-          pub then_edges : (length p ≡ 0 → ⊥) → (r : ℕ) → r ≡ refusal (irregular_rules (record_edges e)) → r ≡ curve_number p e
-          unfolding curve_number
-          then_edges h r f =
-              let k : length p / 56 ≡ 0 → ⊥ = λ z. h (omega arith) in
-              f ∙ sym (rw (le-ltb 57344 (length p) a, le-ltb 2056 (length e) b, eq-eqb (length p % 56) 0 c, eq-eqb (length e % 8) 0 d) (points_pass p (irregular_rules (record_edges e)) k))
+-- ---- all: what is left where none of the first rules is broken
+pub then_edges : (p e : List ℕ) → length p ≤ 57344 → length e ≤ 2056 → length p % 56 ≡ 0 → length e % 8 ≡ 0 → eqb (length p) 0 ≡ false → (r : ℕ) → r ≡ refusal (irregular_rules (record_edges e)) → r ≡ curve_number p e
+unfolding curve_number
+then_edges p e a b c d h r f =
+    let g : length p ≡ 0 → ⊥ = λ z. let t : eqb (length p) 0 ≡ true = eq-eqb (length p) 0 z in cc in
+    let k : length p / 56 ≡ 0 → ⊥ = λ z. g (omega arith) in
+    f ∙ sym (rw (le-ltb 57344 (length p) a, le-ltb 2056 (length e) b, eq-eqb (length p % 56) 0 c, eq-eqb (length e % 8) 0 d) (points_pass p (irregular_rules (record_edges e)) k))

@@ -4,22 +4,25 @@
 ghost use Rattle.std.specs.Prelude.{◌≡◌, ◌≤◌, length};
 ghost use Rattle.definitions.specs.Rules.{refusal, irregular_rules};
 ghost use Rattle.definitions.specs.Records.{record_edges};
+ghost use Rattle.refusals.specs.Numbers.{number_of};
 ghost use Rattle.record_refusals.specs.Answers.{curve_number, zero_edges};
 
 use record_bytes::{EDGE_BYTES, MAX_EDGES, MAX_POINTS, POINT_BYTES};
 use reducer::Edges;
+use refusals::Refusal;
 
 // Room for the edges of a file.
+#[tactic(auto, unfolding(crate::specs::Answers::zero_edges))]
 pub fn edge_numbers() -> [f64; 257]
     ensures { (result ≡ zero_edges) × (257 ≡ length result) }
 {
-    [0.0; 257]
+    floats::zeros()
 }
 
 // The edges' own rules.
-fn edges_refusal(edges: &[u8]) -> u32
+fn edges_refusal(edges: &[u8]) -> Result<(), Refusal>
     requires { length edges.now ≤ 2056 }
-    ensures { result ≡ refusal (irregular_rules (record_edges edges.now)) }
+    ensures { number_of result ≡ refusal (irregular_rules (record_edges edges.now)) }
 {
     let n = edges.len() / EDGE_BYTES;
     let mut list = edge_numbers();
@@ -29,23 +32,23 @@ fn edges_refusal(edges: &[u8]) -> u32
 
 // 7; 27, points first; points; edges.
 #[tactic(auto, using(crate::proofs::Rules::then_edges), unfolding(crate::specs::Answers::curve_number))]
-pub fn curve_refusal(points: &[u8], edges: &[u8]) -> u32
-    ensures { result ≡ curve_number points.now edges.now }
+pub fn curve_refusal(points: &[u8], edges: &[u8]) -> Result<(), Refusal>
+    ensures { number_of result ≡ curve_number points.now edges.now }
 {
     if points.len() > MAX_POINTS * POINT_BYTES {
-        return 7;
+        return Err(Refusal::OverLimit);
     }
     if edges.len() > MAX_EDGES * EDGE_BYTES {
-        return 7;
+        return Err(Refusal::OverLimit);
     }
     if points.len() % POINT_BYTES != 0 {
-        return 27;
+        return Err(Refusal::RecordLength);
     }
     if edges.len() % EDGE_BYTES != 0 {
-        return 27;
+        return Err(Refusal::RecordLength);
     }
-    if points.len() == 0 {
-        return 1;
+    if points.is_empty() {
+        return Err(Refusal::NoPoints);
     }
     edges_refusal(edges)
 }

@@ -28,7 +28,7 @@ module _ (p e : List ℕ) (h : curve_number p e ≡ 0) where
   within : over_run (entry_run p e) ≡ false
   unfolding entry_run bins
   within =
-      let l = limits p e (curve_number p e) refl h in
+      let l = limits p e (sym h) in
       let m = edges_length e in
       rw (le-ltb 4096 (length p / 56) (omega arith), le-ltb 8192 (length p / 56) (omega arith), m, le-ltb 256 (length e / 8 - 1) (omega arith), le-ltb 4096 ((length e / 8 - 1) * 2) (omega arith))
 

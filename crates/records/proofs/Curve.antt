@@ -4,7 +4,7 @@ use mathlib.Core.Bool.{false}
 use mathlib.Core.List.{List}
 use Prim.Native.Nat.{ℕ, ◌*◌, ◌/◌, ◌≤◌}
 use native.Mathlib.Omega.{arith}
-use lib.ListN.{length, take, replicate}
+use lib.ListN.{length, take, replicate, length-replicate}
 use lib.Ieee.{Float}
 use Rattle.definitions.specs.Floats.{zero_f}
 use Rattle.definitions.specs.Bins.{bins, irregular}
@@ -13,8 +13,7 @@ use Rattle.definitions.specs.Records.{column, curve_bins, entry_run, curve_pack}
 use Rattle.reducer.specs.declared.PairOperation.TheVariants.{ElementwiseMultiply}
 use Rattle.reducer.specs.declared.Edges.TheVariants.{Irregular}
 use Rattle.reducer.specs.declared.Kind.TheVariants.{ComponentSumMean}
-use Rattle.unstructured_points.specs.declared.Stride.TheVariants.{Given}
-use Rattle.unstructured_points.specs.Readings.{points_of}
+use Rattle.std.specs.Prelude.{Some}
 use Rattle.parallel_serial.specs.Drive.{sets_run}
 use Rattle.unstructured.specs.Readings.{auto_run}
 use Rattle.record_bytes.specs.Stores.{stored}
@@ -26,18 +25,18 @@ use Rattle.record_bytes.proofs.Files.{three_read_law, weights_read_law}
 use Rattle.record_refusals.proofs.Rules.{edges_decoded}
 
 module _ (p : List ℕ) (h : length p ≤ 57344) where
-  three_decoded : (first : ℕ) (z q : List Float) → 3072 ≡ length z → q ≡ stored 0 (three_read first p) z → take (3 * (length p / 56)) q ≡ three_numbers first (length p / 56) p
+  three_decoded : (first : ℕ) (z q : List Float) → z ≡ replicate 3072 (zero_f false) → q ≡ stored 0 (three_read first p) z → take (3 * (length p / 56)) q ≡ three_numbers first (length p / 56) p
   three_decoded first z q l e =
       ap (take (3 * (length p / 56))) (same_stored (three_read first p) (three_numbers first (length p / 56) p) z q e (sym (three_read_law p first h)))
-      ∙ stored_take (three_numbers first (length p / 56) p) z (3 * (length p / 56)) (three_length first (length p / 56) p) (omega arith)
+      ∙ stored_take (three_numbers first (length p / 56) p) z (3 * (length p / 56)) (three_length first (length p / 56) p) (omega (arith, ap length l ∙ length-replicate 3072 (zero_f false)))
 
-  weights_decoded : (z q : List Float) → 1024 ≡ length z → q ≡ stored 0 (weights_read p) z → take (length p / 56) q ≡ column p 6
+  weights_decoded : (z q : List Float) → z ≡ replicate 1024 (zero_f false) → q ≡ stored 0 (weights_read p) z → take (length p / 56) q ≡ column p 6
   unfolding numbers
   weights_decoded z q l e =
       ap (take (length p / 56)) (same_stored (weights_read p) (numbers 56 48 (length p / 56) p) z q e (sym (weights_read_law p h)))
-      ∙ stored_take (numbers 56 48 (length p / 56) p) z (length p / 56) (numbers_length 56 48 (length p / 56) p) (omega arith)
+      ∙ stored_take (numbers 56 48 (length p / 56) p) z (length p / 56) (numbers_length 56 48 (length p / 56) p) (omega (arith, ap length l ∙ length-replicate 1024 (zero_f false)))
 
-  module _ (x y w q r t : List Float) (a : 3072 ≡ length x) (b : 3072 ≡ length y) (c : 1024 ≡ length w) where
+  module _ (x y w q r t : List Float) (a : x ≡ replicate 3072 (zero_f false)) (b : y ≡ replicate 3072 (zero_f false)) (c : w ≡ replicate 1024 (zero_f false)) where
     pub records_curve : (list pack s : List Float) → q ≡ stored 0 (three_read 0 p) x → r ≡ stored 0 (three_read 24 p) y → t ≡ stored 0 (weights_read p) w
         → s ≡ listed_curve (length p / 56) (take (3 * (length p / 56)) q) (take (3 * (length p / 56)) r) (take (length p / 56) t) list pack → s ≡ record_curve p list pack
     unfolding numbers three_numbers listed_curve record_curve
@@ -50,8 +49,8 @@ files_curve p e z q pack r h l f g k = k ∙ (λ j. record_curve p (edges_decode
 
 -- the run's parameters are the entry's
 pub listed_run : (n b : ℕ) (x y w list pack r : List Float) → b ≡ bins (irregular list)
-    → r ≡ step (auto_run (points_of (record { n_points = n; stride = Given n }) x y w) Irregular list ComponentSumMean list ElementwiseMultiply (record { n_states = b; state_size = 2; members = 1; teams = 1 })) pack
+    → r ≡ step (auto_run (record { count = n; stated = Some n; positions = x; values = y; weights = w }) Irregular list ComponentSumMean list ElementwiseMultiply (record { n_states = b; state_size = 2; members = 1; teams = 1 })) pack
     → r ≡ listed_curve n x y w list pack
 unfolding sets_run listed_curve
 listed_run n b x y w list pack r e f =
-    f ∙ ap (λ (k : ℕ). step (auto_run (points_of (record { n_points = n; stride = Given n }) x y w) Irregular list ComponentSumMean list ElementwiseMultiply (record { n_states = k; state_size = 2; members = 1; teams = 1 })) pack) e
+    f ∙ ap (λ (k : ℕ). step (auto_run (record { count = n; stated = Some n; positions = x; values = y; weights = w }) Irregular list ComponentSumMean list ElementwiseMultiply (record { n_states = k; state_size = 2; members = 1; teams = 1 })) pack) e

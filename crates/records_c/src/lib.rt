@@ -11,5 +11,5 @@ pub extern "C" fn pairstat_curve(points: &[u8], edges: &[u8], output: &mut [u8])
     ensures value { result ≡ refusal (entry_rules points.now edges.now (length output.old)) }
     ensures output_after { output.new ≡ entry_output points.now edges.now output.old }
 {
-    records::pairstat_curve(points, edges, output)
+    refusals::number_of(records::pairstat_curve(points, edges, output))
 }

@@ -1,6 +1,6 @@
 -- What is built of accepted edges finds the definitions' bins, and a datum consumed by a built reducer adds, at each place, what the definitions say.
 use mathlib.Core.Path.{◌≡◌, refl, sym, ap, ◌∙◌}
-use mathlib.Core.Option.{Option, none, some}
+use Rattle.std.specs.Prelude.{Option, None, Some}
 use mathlib.Core.Bool.{Bool, true, false, cond}
 use mathlib.Core.List.{List}
 use Prim.Native.Nat.{ℕ, ◌*◌, ◌<◌, ◌≤◌}
@@ -26,7 +26,7 @@ use Rattle.reducer.specs.Consume.{made_edges, made, built_bins, built_find, buil
 use Rattle.reducer.proofs.Ways.{below_bins, room_state}
 
 -- a bin is among the bins
-pub bin_bounded : (e : definitions.Edges) (x : Float) (b : ℕ) → bin_of e x ≡ some b → b < bins e
+pub bin_bounded : (e : definitions.Edges) (x : Float) (b : ℕ) → bin_of e x ≡ Some b → b < bins e
 unfolding definitions.bin_of
 bin_bounded e x b h = below_bins (bins e) (find e x) b (sym h)
 
@@ -36,10 +36,10 @@ unfolding has_room
 room n size s len a b c d = rw (le-leb n 4096 a, le-leb size 4096 b, lt-ltb s n c, le-leb (n * size) len d)
 
 pub below_again : (n : ℕ) (o : Option ℕ) → below n (below n o) ≡ below n o
-below_again n none = refl
-below_again n (some i) = go (ltb i n) refl
+below_again n None = refl
+below_again n (Some i) = go (ltb i n) refl
   where
-    go : (t : Bool) → ltb i n ≡ t → below n (cond t (some i) none) ≡ cond t (some i) none
+    go : (t : Bool) → ltb i n ≡ t → below n (cond t (Some i) None) ≡ cond t (Some i) None
     go true e = rw e
     go false e = refl
 
@@ -66,8 +66,8 @@ module _ (list : List Float) where
 
   module _ (n s : ℕ) (d : Datum) (pack : List Float) where
     in_length : (o : Option ℕ) (w : Float) → length (add_in o n s w pack) ≡ length pack
-    in_length none w = refl
-    in_length (some b) w = simp length-set
+    in_length None w = refl
+    in_length (Some b) w = simp length-set
 
     added_length : (r : Reducer) (m : ℕ) (o : Option ℕ) → length (added_at r m o n s d pack) ≡ length pack
     added_length reducer.Comp0Mean m o = simp length-set
@@ -84,13 +84,13 @@ module _ (list : List Float) where
 
     module _ (p : ℕ) (h : p < length pack) (l : s < n) where
       -- nothing to no bin
-      nowhere : (t : Bool) → at pack p ≡ add_opt (cond t none none) (at pack p)
+      nowhere : (t : Bool) → at pack p ≡ add_opt (cond t None None) (at pack p)
       nowhere true = refl
       nowhere false = refl
 
-      in_at : (o : Option ℕ) (w : Float) → at (add_in o n s w pack) p ≡ add_opt (in_bin (some s) (state_at n p) (in_bin o (number_at n p) (some w))) (at pack p)
-      in_at none w = nowhere (eqb s (state_at n p))
-      in_at (some b) w = hist_at n s b p w pack l h
+      in_at : (o : Option ℕ) (w : Float) → at (add_in o n s w pack) p ≡ add_opt (in_bin (Some s) (state_at n p) (in_bin o (number_at n p) (Some w))) (at pack p)
+      in_at None w = nowhere (eqb s (state_at n p))
+      in_at (Some b) w = hist_at n s b p w pack l h
 
       added_at_law : (k : Kind) → at (added_at (made k) (length list) (value_bin (made k) list d) n s d pack) p ≡ add_opt (pair_term (kind_of k list) (state_at n p) (number_at n p) (kept s d)) (at pack p)
       added_at_law Comp0Mean = mean_at n s p d.c0 d.weight pack l h
@@ -98,7 +98,7 @@ module _ (list : List Float) where
       added_at_law (ComponentSumHistogram e) =
           let b = built_bin (made_edges e) list (component_sum d) in
           in_at (below (built_bins (made_edges e) (length list)) b) d.weight
-          ∙ ap (λ (o : Option ℕ). add_opt (in_bin (some s) (state_at n p) (in_bin o (number_at n p) (some d.weight))) (at pack p)) (kept_bin (made_edges e) (component_sum d) ∙ made_bin e (component_sum d))
+          ∙ ap (λ (o : Option ℕ). add_opt (in_bin (Some s) (state_at n p) (in_bin o (number_at n p) (Some d.weight))) (at pack p)) (kept_bin (made_edges e) (component_sum d) ∙ made_bin e (component_sum d))
 
     -- with room, at each place of the slice
     pub consumed_at_law : (k : Kind) → has_room n (kind_size (kind_of k list)) s (length pack) ≡ true → (p : ℕ) → p < length pack

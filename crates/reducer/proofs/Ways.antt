@@ -1,6 +1,7 @@
 -- Each way through the code, and the definition that its answer meets.
 use mathlib.Core.Path.{◌≡◌, refl, sym, ap, subst, ◌∙◌}
-use mathlib.Core.Option.{Option, none, some, some-injective, some-ne-none}
+use Rattle.std.specs.Prelude.{Option, None, Some}
+use Rattle.std.proofs.lemmas.Option.{none-some, same_Some}
 use mathlib.Core.Bool.{Bool, true, false, cond, ◌&&◌, true≢false}
 use mathlib.Core.List.{List}
 use Prim.Native.Nat.{ℕ, ◌-◌, ◌*◌, ◌<◌, ◌≤◌}
@@ -18,9 +19,6 @@ use Rattle.definitions.specs.Reducer as definitions
 use Rattle.definitions.specs.Reducer.{datum_of, component_sum}
 use Rattle.laws.proofs.Places.{bump, add_mean, add_hist}
 use Rattle.bins.specs.declared.RegularBinEdges.{RegularBinEdges}
-use Rattle.bins.specs.declared.BinIndex.{BinIndex}
-use Rattle.bins.specs.declared.BinIndex.TheVariants.{At, None}
-use Rattle.bins.specs.Answers.{index_of}
 use Rattle.reducer.specs.declared.PairOperation.{PairOperation}
 use Rattle.reducer.specs.declared.PairOperation.TheVariants.{ElementwiseMultiply, ElementwiseSub}
 use Rattle.reducer.specs.declared.BuiltEdges.{BuiltEdges}
@@ -51,31 +49,28 @@ module _ (edges : BuiltEdges) (m : ℕ) where
   pub bins_regular : (e : RegularBinEdges) → edges ≡ Regular e → e.n_bins ≡ built_bins edges m
   bins_regular e t = rw t
 
-  pub bins_none : edges ≡ Irregular → m ≡ 0 → 0 ≡ built_bins edges m
-  bins_none t h = rw (t, h)
-
   pub bins_irregular : edges ≡ Irregular → m - 1 ≡ built_bins edges m
   bins_irregular t = rw t
 
-module _ (edges : BuiltEdges) (list : List Float) (x : Float) (r : BinIndex) where
-  pub find_regular : (e : RegularBinEdges) → edges ≡ Regular e → index_of r ≡ regular_index e.min e.max e.bin_size x → index_of r ≡ built_find edges list x
+module _ (edges : BuiltEdges) (list : List Float) (x : Float) (r : Option ℕ) where
+  pub find_regular : (e : RegularBinEdges) → edges ≡ Regular e → r ≡ regular_index e.min e.max e.bin_size x → r ≡ built_find edges list x
   find_regular e t h = rw t h
 
-  pub find_irregular : edges ≡ Irregular → index_of r ≡ irregular_index list x → index_of r ≡ built_find edges list x
+  pub find_irregular : edges ≡ Irregular → r ≡ irregular_index list x → r ≡ built_find edges list x
   find_irregular t h = rw t h
 
-  module _ (n : ℕ) (q : n ≡ built_bins edges (length list)) (h : index_of r ≡ built_find edges list x) where
-    found : (i : BinIndex) → r ≡ i → built_bin edges list x ≡ below n (index_of i)
+  module _ (n : ℕ) (q : n ≡ built_bins edges (length list)) (h : r ≡ built_find edges list x) where
+    found : (i : Option ℕ) → r ≡ i → built_bin edges list x ≡ below n i
     unfolding built_bin
     found i t = rw (← h, ← q, t)
 
-    pub bin_kept : (i : ℕ) → r ≡ At i → i < n → index_of (At i) ≡ built_bin edges list x
-    bin_kept i t l = sym (found (At i) t ∙ (rw (lt-ltb i n l)))
+    pub bin_kept : (i : ℕ) → r ≡ Some i → i < n → Some i ≡ built_bin edges list x
+    bin_kept i t l = sym (found (Some i) t ∙ (rw (lt-ltb i n l)))
 
-    pub bin_past : (i : ℕ) → r ≡ At i → n ≤ i → index_of None ≡ built_bin edges list x
-    bin_past i t l = sym (found (At i) t ∙ (rw (le-ltb i n l)))
+    pub bin_past : (i : ℕ) → r ≡ Some i → n ≤ i → None ≡ built_bin edges list x
+    bin_past i t l = sym (found (Some i) t ∙ (rw (le-ltb i n l)))
 
-    pub bin_none : r ≡ None → index_of None ≡ built_bin edges list x
+    pub bin_none : r ≡ None → None ≡ built_bin edges list x
     bin_none t = sym (found None t)
 
 pub size_histogram : (r : Reducer) (e : BuiltEdges) (m n : ℕ) → r ≡ ComponentSumHistogram e → n ≡ built_bins e m → n ≡ reducer_size r m
@@ -90,22 +85,22 @@ pub place_within : (e size s n len : ℕ) → e < size → s < n → n * size �
 place_within e size s n len h k l = omega (arith, mul-le-mul_right n h, add-mul e 1 n, one-mul n, mul_comm size n)
 
 -- ---- a histogram's number
-pub below_bins : (n : ℕ) (o : Option ℕ) (i : ℕ) → some i ≡ below n o → i < n
-below_bins n none i e = absurd (some-ne-none i e)
-below_bins n (some j) i e = go (ltb j n) refl e
+pub below_bins : (n : ℕ) (o : Option ℕ) (i : ℕ) → Some i ≡ below n o → i < n
+below_bins n None i e = absurd (none-some i (sym e))
+below_bins n (Some j) i e = go (ltb j n) refl e
   where
-    go : (t : Bool) → ltb j n ≡ t → some i ≡ cond t (some j) none → i < n
-    go true t k = subst (λ (a : ℕ). a < n) (sym (some-injective i j k)) (ltb-true j n t)
-    go false t k = absurd (some-ne-none i k)
+    go : (t : Bool) → ltb j n ≡ t → Some i ≡ cond t (Some j) None → i < n
+    go true t k = subst (λ (a : ℕ). a < n) (sym (same_Some i j k)) (ltb-true j n t)
+    go false t k = absurd (none-some i (sym k))
 
-module _ (m : ℕ) (r : BinIndex) (n s : ℕ) (w : Float) (p : List Float) where
-  pub hist_kept : (i : ℕ) (q : List Float) → r ≡ At i → i < m → q ≡ add_hist n s i w p → q ≡ add_in (below m (index_of r)) n s w p
+module _ (m : ℕ) (r : Option ℕ) (n s : ℕ) (w : Float) (p : List Float) where
+  pub hist_kept : (i : ℕ) (q : List Float) → r ≡ Some i → i < m → q ≡ add_hist n s i w p → q ≡ add_in (below m r) n s w p
   hist_kept i q t l e = e ∙ (rw (t, lt-ltb i m l))
 
-  pub hist_past : (i : ℕ) → r ≡ At i → m ≤ i → p ≡ add_in (below m (index_of r)) n s w p
+  pub hist_past : (i : ℕ) → r ≡ Some i → m ≤ i → p ≡ add_in (below m r) n s w p
   hist_past i t l = rw (t, le-ltb i m l)
 
-  pub hist_none : r ≡ None → p ≡ add_in (below m (index_of r)) n s w p
+  pub hist_none : r ≡ None → p ≡ add_in (below m r) n s w p
   hist_none t = rw t
 
 -- ---- a datum
@@ -126,8 +121,8 @@ module _ (n size s len : ℕ) (h : has_room n size s len ≡ true) where
   room_pack : n * size ≤ len
   room_pack = leb-true (n * size) len parts.1
 
-module _ (r : Reducer) (m : ℕ) (b : BinIndex) (n s : ℕ) (d : definitions.Datum) (p : List Float) (size : ℕ) (z : size ≡ reducer_size r m) (o : Bool) (h : o ≡ has_room n size s (length p)) where
-  pub consumed_none : o ≡ false → p ≡ consumed_at r m (index_of b) n s d p
+module _ (r : Reducer) (m : ℕ) (b : Option ℕ) (n s : ℕ) (d : definitions.Datum) (p : List Float) (size : ℕ) (z : size ≡ reducer_size r m) (o : Bool) (h : o ≡ has_room n size s (length p)) where
+  pub consumed_none : o ≡ false → p ≡ consumed_at r m b n s d p
   unfolding consumed_at
   consumed_none t = rw (← z, ← h, t)
 
@@ -148,19 +143,19 @@ module _ (r : Reducer) (m : ℕ) (b : BinIndex) (n s : ℕ) (d : definitions.Dat
     within_sum e = two ComponentSumMean e refl
 
     module _ (q : List Float) where
-      by_reducer : (k : Reducer) → r ≡ k → q ≡ added_at k m (index_of b) n s d p → q ≡ consumed_at r m (index_of b) n s d p
+      by_reducer : (k : Reducer) → r ≡ k → q ≡ added_at k m b n s d p → q ≡ consumed_at r m b n s d p
       unfolding consumed_at
       by_reducer k e f = f ∙ (rw (← z, ← h, t, e))
 
-      pub consumed_comp0 : r ≡ Comp0Mean → q ≡ add_mean n s d.c0 d.weight p → q ≡ consumed_at r m (index_of b) n s d p
+      pub consumed_comp0 : r ≡ Comp0Mean → q ≡ add_mean n s d.c0 d.weight p → q ≡ consumed_at r m b n s d p
       consumed_comp0 e f = by_reducer Comp0Mean e f
 
-      pub consumed_sum : (v : Float) → r ≡ ComponentSumMean → v ≡ component_sum d → q ≡ add_mean n s v d.weight p → q ≡ consumed_at r m (index_of b) n s d p
+      pub consumed_sum : (v : Float) → r ≡ ComponentSumMean → v ≡ component_sum d → q ≡ add_mean n s v d.weight p → q ≡ consumed_at r m b n s d p
       consumed_sum v e c f = by_reducer ComponentSumMean e (f ∙ ap (λ (x : Float). add_mean n s x d.weight p) c)
 
-      pub consumed_histogram : (k : BuiltEdges) → r ≡ ComponentSumHistogram k → q ≡ add_in (below size (index_of b)) n s d.weight p → q ≡ consumed_at r m (index_of b) n s d p
+      pub consumed_histogram : (k : BuiltEdges) → r ≡ ComponentSumHistogram k → q ≡ add_in (below size b) n s d.weight p → q ≡ consumed_at r m b n s d p
       consumed_histogram k e f =
-          by_reducer (ComponentSumHistogram k) e (f ∙ ap (λ (a : ℕ). add_in (below a (index_of b)) n s d.weight p) (z ∙ ap (λ (a : Reducer). reducer_size a m) e))
+          by_reducer (ComponentSumHistogram k) e (f ∙ ap (λ (a : ℕ). add_in (below a b) n s d.weight p) (z ∙ ap (λ (a : Reducer). reducer_size a m) e))
 
 -- ---- the value's bin
 module _ (r : Reducer) (list : List Float) (d : definitions.Datum) where
@@ -172,7 +167,7 @@ unfolding consumed
 consumed_found r list n s d p = refl
 
 -- b is the bin found, q what `consume_at` left
-pub consumed_is : (r : Reducer) (list : List Float) (n s : ℕ) (d : definitions.Datum) (p q : List Float) (b : BinIndex) → index_of b ≡ value_bin r list d
-    → q ≡ consumed_at r (length list) (index_of b) n s d p → q ≡ consumed r list n s d p
+pub consumed_is : (r : Reducer) (list : List Float) (n s : ℕ) (d : definitions.Datum) (p q : List Float) (b : Option ℕ) → b ≡ value_bin r list d
+    → q ≡ consumed_at r (length list) b n s d p → q ≡ consumed r list n s d p
 unfolding consumed
 consumed_is r list n s d p q b e f = f ∙ ap (λ (o : Option ℕ). consumed_at r (length list) o n s d p) e

@@ -1,5 +1,5 @@
 -- What is built of edges and kinds, and what a datum does to a pack, as stores.
-use Rattle.std.proofs.Math.Option.{Option, none, some}
+use Rattle.std.specs.Prelude.{Option, None, Some}
 use Rattle.std.specs.Prelude.{List, Bool, cond, ◌&&◌, ℕ, ◌-◌, ◌*◌, leb, ltb, length, Float}
 use Rattle.definitions.specs.Bins.{regular_index, irregular_index, below}
 use Rattle.definitions.specs.Reducer.{Datum, component_sum}
@@ -49,13 +49,13 @@ has_room n size s len = leb n 4096 && leb size 4096 && ltb s n && leb (n * size)
 
 -- weight to the value's bin, if there is one
 abbrev pub add_in : Option ℕ → ℕ → ℕ → Float → List Float → List Float
-add_in none n s w pack = pack
-add_in (some b) n s w pack = add_hist n s b w pack
+add_in None n s w pack = pack
+add_in (Some b) n s w pack = add_hist n s b w pack
 
 -- the bin of a datum's value; a mean needs none
 abbrev pub value_bin : Reducer → List Float → Datum → Option ℕ
-value_bin Comp0Mean list d = none
-value_bin ComponentSumMean list d = none
+value_bin Comp0Mean list d = None
+value_bin ComponentSumMean list d = None
 value_bin (ComponentSumHistogram e) list d = built_bin e list (component_sum d)
 
 -- the datum, whose value's bin is o, is added to state s; m is the length of the value edges

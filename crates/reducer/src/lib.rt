@@ -6,11 +6,10 @@ ghost use Rattle.definitions.specs.Bins.{below};
 ghost use Rattle.definitions.specs.Reducer.{datum_of, component_sum};
 ghost use Rattle.definitions.specs.Run.{place};
 ghost use Rattle.laws.proofs.Places.{bump, add_mean};
-ghost use Rattle.bins.specs.Answers.{index_of};
 ghost use Rattle.reducer.specs.Readings.{op_of, the_datum, reading_of};
 ghost use Rattle.reducer.specs.Consume.{built_bins, built_find, built_bin, reducer_size, has_room, add_in, value_bin, consumed_at, consumed};
 
-use bins::{BinIndex, RegularBinEdges};
+use bins::RegularBinEdges;
 
 #[derive(Clone, Copy)]
 pub enum PairOperation {
@@ -90,17 +89,12 @@ pub fn n_bins(edges: BuiltEdges, edges_len: usize) -> usize
 {
     match edges {
         BuiltEdges::Regular(e) => e.n_bins,
-        BuiltEdges::Irregular => {
-            if edges_len == 0 {
-                return 0;
-            }
-            edges_len - 1
-        }
+        BuiltEdges::Irregular => edges_len.saturating_sub(1),
     }
 }
 
-fn bin_index(edges: BuiltEdges, list: &[f64], value: f64) -> BinIndex
-    ensures { index_of result ≡ built_find edges list.now value }
+fn bin_index(edges: BuiltEdges, list: &[f64], value: f64) -> Option<usize>
+    ensures { result ≡ built_find edges list.now value }
 {
     match edges {
         BuiltEdges::Regular(e) => e.bin_index(value),
@@ -109,18 +103,18 @@ fn bin_index(edges: BuiltEdges, list: &[f64], value: f64) -> BinIndex
 }
 
 // The value's bin; an index past the bins is dropped.
-pub fn bin_of(edges: BuiltEdges, list: &[f64], value: f64) -> BinIndex
-    ensures { index_of result ≡ built_bin edges list.now value }
+pub fn bin_of(edges: BuiltEdges, list: &[f64], value: f64) -> Option<usize>
+    ensures { result ≡ built_bin edges list.now value }
 {
     let n = n_bins(edges, list.len());
     match bin_index(edges, list, value) {
-        BinIndex::At(i) => {
+        Some(i) => {
             if i < n {
-                return BinIndex::At(i);
+                return Some(i);
             }
-            BinIndex::None
+            None
         }
-        BinIndex::None => BinIndex::None,
+        None => None,
     }
 }
 
@@ -171,22 +165,22 @@ fn add_mean(n_states: usize, s: usize, value: f64, weight: f64, pack: &mut [f64]
 // Weight to the number of bin `found`, if it is one of n_bins.
 fn add_histogram(
     n_bins: usize,
-    found: BinIndex,
+    found: Option<usize>,
     n_states: usize,
     s: usize,
     weight: f64,
     pack: &mut [f64],
 )
     requires { (s < n_states) × (n_states * n_bins ≤ length pack.old) }
-    ensures { pack.new ≡ add_in (below n_bins (index_of found)) n_states s weight pack.old }
+    ensures { pack.new ≡ add_in (below n_bins found) n_states s weight pack.old }
 {
     match found {
-        BinIndex::At(bin) => {
+        Some(bin) => {
             if bin < n_bins {
                 add_number(n_states, bin, s, weight, pack);
             }
         }
-        BinIndex::None => {}
+        None => {}
     }
 }
 
@@ -194,13 +188,13 @@ fn add_histogram(
 pub fn consume_at(
     reducer: Reducer,
     value_edges_len: usize,
-    found: BinIndex,
+    found: Option<usize>,
     n_states: usize,
     s: usize,
     datum: Datum,
     pack: &mut [f64],
 )
-    ensures { pack.new ≡ consumed_at reducer value_edges_len (index_of found) n_states s (the_datum datum) pack.old }
+    ensures { pack.new ≡ consumed_at reducer value_edges_len found n_states s (the_datum datum) pack.old }
 {
     let size = state_size(reducer, value_edges_len);
     if has_room(n_states, size, s, pack.len()) {
@@ -216,12 +210,12 @@ pub fn consume_at(
     }
 }
 
-fn value_bin(reducer: Reducer, value_edges: &[f64], datum: Datum) -> BinIndex
-    ensures { index_of result ≡ value_bin reducer value_edges.now (the_datum datum) }
+fn value_bin(reducer: Reducer, value_edges: &[f64], datum: Datum) -> Option<usize>
+    ensures { result ≡ value_bin reducer value_edges.now (the_datum datum) }
 {
     match reducer {
-        Reducer::Comp0Mean => BinIndex::None,
-        Reducer::ComponentSumMean => BinIndex::None,
+        Reducer::Comp0Mean => None,
+        Reducer::ComponentSumMean => None,
         Reducer::ComponentSumHistogram(edges) => {
             let value = component_sum(datum);
             bin_of(edges, value_edges, value)

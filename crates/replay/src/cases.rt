@@ -1,195 +1,158 @@
 // One call for each record, and whether it answered as the list says.
-use crate::words::{after, count, float, least, part, word};
-use bin_lookups::Lookup;
-use misc::Segment;
-use state::{Outcome, StateKind};
+use crate::runs;
+use crate::words::Record;
+use refusals::Refusal;
+use state_refusals::{PackShape, StateKind};
 
-// The three words that say what a lookup or a segment's call answered.
-#[derive(Clone, Copy)]
-pub struct Answer {
-    pub number: u64,
-    pub first: u64,
-    pub second: u64,
+#[derive(Clone, Copy, PartialEq, Eq, Debug)]
+pub enum Operation {
+    RegularLookup,
+    IrregularLookup,
+    Segment,
+    Reset,
+    Merge,
+    Consolidation,
+    StateResult,
+    Points,
+    Blocks,
 }
 
-fn answer_agrees(answer: Answer, words: &[u64], at: usize) -> bool {
-    if answer.number != word(words, at) {
-        return false;
-    }
-    if answer.first != word(words, after(at, 1)) {
-        return false;
-    }
-    answer.second == word(words, after(at, 2))
-}
+// The lists' codes.
+impl TryFrom<u64> for Operation {
+    type Error = u64;
 
-fn refused(k: u32) -> Answer {
-    Answer {
-        number: k as u64,
-        first: 0,
-        second: 0,
-    }
-}
-
-fn accepted(first: u64, second: u64) -> Answer {
-    Answer {
-        number: 0,
-        first,
-        second,
-    }
-}
-
-fn lookup(answer: Lookup) -> Answer {
-    match answer {
-        Lookup::At(i) => accepted(1, i as u64),
-        Lookup::None => accepted(0, 0),
-        Lookup::Refused(k) => refused(k),
+    fn try_from(code: u64) -> Result<Operation, u64> {
+        match code {
+            1 => Ok(Operation::RegularLookup),
+            2 => Ok(Operation::IrregularLookup),
+            3 => Ok(Operation::Segment),
+            4 => Ok(Operation::Reset),
+            5 => Ok(Operation::Merge),
+            6 => Ok(Operation::Consolidation),
+            7 => Ok(Operation::StateResult),
+            8 => Ok(Operation::Points),
+            9 => Ok(Operation::Blocks),
+            _ => Err(code),
+        }
     }
 }
 
-fn bounds(answer: Segment) -> Answer {
-    match answer {
-        Segment::Bounds(start, stop) => accepted(start as u64, stop as u64),
-        Segment::Refused(k) => refused(k),
-    }
-}
+// ---- lookups and segments: the three words are what C gets
 
 // min max n v -> number, found, index
-fn regular_lookup(words: &[u64], floats: &[f64]) -> bool {
-    let answer = bin_lookups::regular_bin_index(
-        float(floats, 0),
-        float(floats, 1),
-        count(words, 2),
-        float(floats, 3),
-    );
-    answer_agrees(lookup(answer), words, 4)
+fn regular_lookup(record: &mut Record) -> bool {
+    let min = record.float();
+    let max = record.float();
+    let n_bins = record.count();
+    let value = record.float();
+    let answer = bin_lookups::regular_bin_index(min, max, n_bins, value);
+    record.has_words(&capi_words::lookup_words(answer))
 }
 
 // n edges.. v -> number, found, index
-fn irregular_lookup(words: &[u64], floats: &[f64]) -> bool {
-    let end = after(1, count(words, 0));
-    let answer = bin_lookups::irregular_bin_index(part(floats, 1, end), float(floats, end));
-    answer_agrees(lookup(answer), words, after(end, 1))
+fn irregular_lookup(record: &mut Record) -> bool {
+    let n = record.count();
+    let edges = record.floats(n);
+    let value = record.float();
+    let answer = bin_lookups::irregular_bin_index(edges, value);
+    record.has_words(&capi_words::lookup_words(answer))
 }
 
 // n_indices seg_index n_segments -> number, start, stop
-fn segment(words: &[u64]) -> bool {
-    let answer = misc::segment_idx_bounds(count(words, 0), count(words, 1), count(words, 2));
-    answer_agrees(bounds(answer), words, 3)
+fn segment(record: &mut Record) -> bool {
+    let n_indices = record.count();
+    let seg_index = record.count();
+    let n_segments = record.count();
+    let answer = misc::segment_idx_bounds(n_indices, seg_index, n_segments);
+    record.has_words(&capi_words::segment_words(answer))
 }
 
-// The state's kind, by the record's first two words.
-fn kind_at(words: &[u64]) -> StateKind {
-    if word(words, 0) == 2 {
-        return StateKind::Histogram(count(words, 1));
-    }
-    StateKind::Mean
+// ---- calls that may write a slice -> number, the slice after
+
+// The next n numbers, copied for a call to work on.
+pub fn lent<'a>(record: &mut Record, n: usize, room: &'a mut [f64]) -> &'a mut [f64] {
+    let given = record.floats(n);
+    let n = given.len().min(room.len());
+    let slice = &mut room[..n];
+    slice.copy_from_slice(&given[..n]);
+    slice
 }
 
-// Where the slice that a call may write stands, and its answer: a number, then the slice after.
-#[derive(Clone, Copy)]
-pub struct Lent {
-    pub start: usize,
-    pub n: usize,
-    pub answer: usize,
+pub fn slice_agrees(record: &mut Record, answer: Result<(), Refusal>, slice: &[f64]) -> bool {
+    record.word() == u64::from(refusals::number_of(answer)) && record.has_floats(slice)
 }
 
-// A slice of n, and `more` words between it and the answer.
-pub fn lent_part(start: usize, n: usize, more: usize) -> Lent {
-    let answer = after(after(start, n), more);
-    Lent { start, n, answer }
+// The form 2 is a histogram, the others are means.
+fn state_kind(record: &mut Record) -> StateKind {
+    let histogram = record.word() == 2;
+    capi_words::state_kind_from(u64::from(histogram), record.count())
 }
 
-fn lent_at(op: u64, words: &[u64]) -> Lent {
-    match op {
-        4 => lent_part(5, count(words, 4), 0),
-        5 => lent_part(8, count(words, 6), count(words, 7)),
-        6 => lent_part(6, count(words, 5), 0),
-        7 => lent_part(after(7, count(words, 5)), count(words, 6), 0),
-        8 => crate::runs::lent_at(words, 3, 3),
-        _ => crate::runs::lent_at(words, 9, 4),
+fn pack_shape(record: &mut Record) -> PackShape {
+    PackShape {
+        n_states: record.count(),
+        state_size: record.count(),
     }
 }
 
-// kind value_bins states size len slice..
-fn reset(words: &[u64], slice: &mut [f64]) -> Outcome {
-    state::reset_full_statepack(kind_at(words), count(words, 2), count(words, 3), slice)
+// form value_bins states size len slice..
+fn reset(record: &mut Record, room: &mut [f64]) -> bool {
+    let kind = state_kind(record);
+    let shape = pack_shape(record);
+    let n = record.count();
+    let pack = lent(record, n, room);
+    let answer = state::reset_full_statepack(kind, shape, pack);
+    slice_agrees(record, answer, pack)
 }
 
-// kind value_bins states size states2 size2 len len2 slice.. slice2..
-fn merge(words: &[u64], floats: &[f64], at: Lent, slice: &mut [f64]) -> Outcome {
-    state::merge_full_statepacks(
-        kind_at(words),
-        count(words, 2),
-        count(words, 3),
-        count(words, 4),
-        count(words, 5),
-        slice,
-        part(floats, after(at.start, at.n), at.answer),
-    )
+// form value_bins states size states2 size2 len len2 slice.. slice2..
+fn merge(record: &mut Record, room: &mut [f64]) -> bool {
+    let kind = state_kind(record);
+    let shape = pack_shape(record);
+    let other_shape = pack_shape(record);
+    let n = record.count();
+    let other_n = record.count();
+    let pack = lent(record, n, room);
+    let other = record.floats(other_n);
+    let answer = state::merge_full_statepacks(kind, shape, other_shape, pack, other);
+    slice_agrees(record, answer, pack)
 }
 
-// kind value_bins packs states size len slice..
-fn consolidate(words: &[u64], slice: &mut [f64]) -> Outcome {
-    state::serial_consolidate_scratch_statepacks(
-        kind_at(words),
-        count(words, 2),
-        count(words, 3),
-        count(words, 4),
-        slice,
-    )
+// form value_bins packs states size len slice..
+fn consolidate(record: &mut Record, room: &mut [f64]) -> bool {
+    let kind = state_kind(record);
+    let n_packs = record.count();
+    let shape = pack_shape(record);
+    let n = record.count();
+    let packs = lent(record, n, room);
+    let answer = state::serial_consolidate_scratch_statepacks(kind, n_packs, shape, packs);
+    slice_agrees(record, answer, packs)
 }
 
-// kind value_bins states size index len room slice.. value..
-fn result(words: &[u64], floats: &[f64], at: Lent, value: &mut [f64]) -> Outcome {
-    state::value_from_accum_state(
-        kind_at(words),
-        count(words, 2),
-        count(words, 3),
-        count(words, 4),
-        part(floats, 7, at.start),
-        value,
-    )
-}
-
-fn outcome(op: u64, words: &[u64], floats: &[f64], at: Lent, slice: &mut [f64]) -> Outcome {
-    match op {
-        4 => reset(words, slice),
-        5 => merge(words, floats, at, slice),
-        6 => consolidate(words, slice),
-        7 => result(words, floats, at, slice),
-        8 => crate::runs::points(words, floats, slice),
-        _ => crate::runs::blocks(words, floats, slice),
-    }
-}
-
-fn number(answer: Outcome) -> u64 {
-    match answer {
-        Outcome::Done => 0,
-        Outcome::Refused(k) => k as u64,
-    }
-}
-
-fn slice_call(op: u64, words: &[u64], floats: &[f64], at: Lent, slice: &mut [f64]) -> bool {
-    crate::words::load(floats, at.start, slice);
-    if number(outcome(op, words, floats, at, slice)) != word(words, at.answer) {
-        return false;
-    }
-    crate::words::same(slice, words, after(at.answer, 1))
-}
-
-fn slice_agrees(op: u64, words: &[u64], floats: &[f64], room: &mut [f64]) -> bool {
-    let at = lent_at(op, words);
-    let n = least(at.n, room.len());
-    slice_call(op, words, floats, at, &mut room[..n])
+// form value_bins states size index len room slice.. value..
+fn state_result(record: &mut Record, room: &mut [f64]) -> bool {
+    let kind = state_kind(record);
+    let shape = pack_shape(record);
+    let index = record.count();
+    let n = record.count();
+    let value_n = record.count();
+    let pack = record.floats(n);
+    let value = lent(record, value_n, room);
+    let answer = state::value_from_accum_state(kind, shape, index, pack, value);
+    slice_agrees(record, answer, value)
 }
 
 // Whether the call of the record answers as the list says.
-pub fn agrees(op: u64, words: &[u64], floats: &[f64], room: &mut [f64]) -> bool {
-    match op {
-        1 => regular_lookup(words, floats),
-        2 => irregular_lookup(words, floats),
-        3 => segment(words),
-        4..=9 => slice_agrees(op, words, floats, room),
-        _ => false,
+pub fn agrees(operation: Operation, record: &mut Record, room: &mut [f64]) -> bool {
+    match operation {
+        Operation::RegularLookup => regular_lookup(record),
+        Operation::IrregularLookup => irregular_lookup(record),
+        Operation::Segment => segment(record),
+        Operation::Reset => reset(record, room),
+        Operation::Merge => merge(record, room),
+        Operation::Consolidation => consolidate(record, room),
+        Operation::StateResult => state_result(record, room),
+        Operation::Points => runs::points(record, room),
+        Operation::Blocks => runs::blocks(record, room),
     }
 }

@@ -1,269 +1,239 @@
-// Calls of the runs: cross op form, set or block a, of a cross run b, of blocks the widths, edges, of a histogram value edges, states size members teams len slice..
-use crate::cases::Lent;
-use crate::words::{after, count, float, part, signed, word};
+// Calls of the runs: cross op form, set or block a, of a cross run b, of blocks the widths, edges, of a histogram value edges,
+// states size members teams len slice..
+use crate::cases;
+use crate::words::Record;
 use parallel_serial::Shape;
 use reducer::{Edges, Kind, PairOperation};
+use refusals::Refusal;
 use spatial::{Block, CellWidth};
-use state::Outcome;
-use unstructured_points::{PointSet, Stride};
+use unstructured_points::PointSet;
 
-// Where the columns of a set (positions, values, weights) or of a block (three components, weights) stand, one after the other.
+// What a record of a run begins with.
 #[derive(Clone, Copy)]
-pub struct Columns {
-    pub first: usize,
-    pub second: usize,
-    pub third: usize,
-    pub fourth: usize,
-    pub end: usize,
+pub struct Head {
+    pub cross: bool,
+    pub op: PairOperation,
+    pub form: u64,
 }
 
-// After `head` numbers stand the lengths of n columns, 3 or 4, then the columns.
-fn columns_at(words: &[u64], at: usize, head: usize, n: usize) -> Columns {
-    let lengths = after(at, head);
-    let first = after(lengths, n);
-    let second = after(first, count(words, lengths));
-    let third = after(second, count(words, after(lengths, 1)));
-    let fourth = after(third, count(words, after(lengths, 2)));
-    let end = if n == 4 {
-        after(fourth, count(words, after(lengths, 3)))
-    } else {
-        fourth
-    };
-    Columns {
-        first,
-        second,
-        third,
-        fourth,
-        end,
-    }
+fn read_head(record: &mut Record) -> Head {
+    let cross = record.word() == 1;
+    let op = capi_words::op_from(record.word());
+    let form = record.word();
+    Head { cross, op, form }
 }
 
-// Edges stand as 0 min max n, or as 1 len edges..
-#[derive(Clone, Copy)]
-pub struct EdgesPart {
-    pub at: usize,
-    pub list: usize,
-    pub end: usize,
-}
-
-fn edges_part(words: &[u64], at: usize) -> EdgesPart {
-    if word(words, at) == 0 {
-        let end = after(at, 4);
-        return EdgesPart { at, list: end, end };
-    }
-    let list = after(at, 2);
-    let end = after(list, count(words, after(at, 1)));
-    EdgesPart { at, list, end }
-}
-
-// Of a mean there are no value edges.
-fn value_part(words: &[u64], at: usize) -> EdgesPart {
-    if word(words, 2) == 2 {
-        return edges_part(words, at);
-    }
-    EdgesPart {
-        at,
-        list: at,
-        end: at,
-    }
-}
-
-// The parts of a run's record.
-#[derive(Clone, Copy)]
-pub struct Parts {
-    pub a: Columns,
-    pub b: Columns,
-    pub widths: usize,
-    pub edges: EdgesPart,
-    pub value: EdgesPart,
-}
-
-// Of an auto run nothing reads b.
-fn parts_of(words: &[u64], head: usize, n: usize) -> Parts {
-    let a = columns_at(words, 3, head, n);
-    let b = columns_at(words, a.end, head, n);
-    let widths = if word(words, 0) == 1 { b.end } else { a.end };
-    let start = if n == 4 { after(widths, 3) } else { widths };
-    let edges = edges_part(words, start);
-    let value = value_part(words, edges.end);
-    Parts {
-        a,
-        b,
-        widths,
-        edges,
-        value,
-    }
-}
-
-pub fn lent_at(words: &[u64], head: usize, n: usize) -> Lent {
-    let shape = parts_of(words, head, n).value.end;
-    crate::cases::lent_part(after(shape, 5), count(words, after(shape, 4)), 0)
-}
-
-fn edges_of(words: &[u64], floats: &[f64], e: EdgesPart) -> Edges {
-    if word(words, e.at) == 0 {
-        return Edges::Regular(
-            float(floats, after(e.at, 1)),
-            float(floats, after(e.at, 2)),
-            count(words, after(e.at, 3)),
-        );
-    }
-    Edges::Irregular
-}
-
-fn kind_of(words: &[u64], floats: &[f64], value: EdgesPart) -> Kind {
-    let form = word(words, 2);
-    if form == 0 {
-        return Kind::Comp0Mean;
-    }
-    if form == 1 {
-        return Kind::ComponentSumMean;
-    }
-    Kind::ComponentSumHistogram(edges_of(words, floats, value))
-}
-
-fn op_of(words: &[u64]) -> PairOperation {
-    if word(words, 1) == 0 {
-        return PairOperation::ElementwiseMultiply;
-    }
-    PairOperation::ElementwiseSub
-}
-
-fn shape_at(words: &[u64], at: usize) -> Shape {
-    Shape {
-        n_states: count(words, at),
-        state_size: count(words, after(at, 1)),
-        members: count(words, after(at, 2)),
-        teams: count(words, after(at, 3)),
-    }
-}
-
-fn stride_at(words: &[u64], at: usize) -> Stride {
-    if word(words, at) == 1 {
-        return Stride::Given(count(words, after(at, 1)));
-    }
-    Stride::Omitted
-}
-
-fn set_at(words: &[u64], at: usize) -> PointSet {
-    let stride = stride_at(words, after(at, 1));
+// n stated stride, the columns' lengths, the columns
+fn read_set<'a>(record: &mut Record<'a>) -> PointSet<'a> {
+    let n_points = record.count();
+    let stated = record.word();
+    let stride = capi_words::stride_from(stated, record.count());
+    let lengths = [record.count(), record.count(), record.count()];
     PointSet {
-        n_points: count(words, at),
+        positions: record.floats(lengths[0]),
+        values: record.floats(lengths[1]),
+        weights: record.floats(lengths[2]),
+        n_points,
         stride,
     }
 }
 
-fn block_at(words: &[u64], at: usize) -> Block {
+// nz ny nx sz sy sx gz gy gx, the columns' lengths, the columns
+fn read_block<'a>(record: &mut Record<'a>) -> Block<'a> {
+    let axes = [record.count(), record.count(), record.count()];
+    let strides = [record.count(), record.count(), record.count()];
+    let globals = [record.signed(), record.signed(), record.signed()];
+    let lengths = [
+        record.count(),
+        record.count(),
+        record.count(),
+        record.count(),
+    ];
     Block {
-        nz: count(words, at),
-        ny: count(words, after(at, 1)),
-        nx: count(words, after(at, 2)),
-        sz: count(words, after(at, 3)),
-        sy: count(words, after(at, 4)),
-        sx: count(words, after(at, 5)),
-        gz: signed(words, after(at, 6)),
-        gy: signed(words, after(at, 7)),
-        gx: signed(words, after(at, 8)),
+        comp0: record.floats(lengths[0]),
+        comp1: record.floats(lengths[1]),
+        comp2: record.floats(lengths[2]),
+        weights: record.floats(lengths[3]),
+        nz: axes[0],
+        ny: axes[1],
+        nx: axes[2],
+        sz: strides[0],
+        sy: strides[1],
+        sx: strides[2],
+        gz: globals[0],
+        gy: globals[1],
+        gx: globals[2],
     }
 }
 
-fn width_at(floats: &[f64], at: usize) -> CellWidth {
+fn read_width(record: &mut Record) -> CellWidth {
     CellWidth {
-        z: float(floats, at),
-        y: float(floats, after(at, 1)),
-        x: float(floats, after(at, 2)),
+        z: record.float(),
+        y: record.float(),
+        x: record.float(),
     }
 }
 
-fn points_auto(words: &[u64], floats: &[f64], p: Parts, slice: &mut [f64]) -> Outcome {
+// 0 min max n, or 1 len edges..
+fn read_edges<'a>(record: &mut Record<'a>) -> (Edges, &'a [f64]) {
+    if record.word() == 0 {
+        let min = record.float();
+        let max = record.float();
+        return (Edges::Regular(min, max, record.count()), &[]);
+    }
+    let n = record.count();
+    (Edges::Irregular, record.floats(n))
+}
+
+// What stands after the sets or blocks.
+#[derive(Clone, Copy)]
+pub struct Rest<'a> {
+    pub edges: Edges,
+    pub list: &'a [f64],
+    pub kind: Kind,
+    pub value_list: &'a [f64],
+    pub shape: Shape,
+}
+
+// Of a mean there are no value edges.
+fn read_rest<'a>(record: &mut Record<'a>, form: u64) -> Rest<'a> {
+    let (edges, list) = read_edges(record);
+    let (value, value_list) = if form == 2 {
+        read_edges(record)
+    } else {
+        (Edges::Irregular, &[][..])
+    };
+    Rest {
+        edges,
+        list,
+        kind: capi_words::kind_from(form, value),
+        value_list,
+        shape: read_shape(record),
+    }
+}
+
+fn read_shape(record: &mut Record) -> Shape {
+    Shape {
+        n_states: record.count(),
+        state_size: record.count(),
+        members: record.count(),
+        teams: record.count(),
+    }
+}
+
+fn points_auto(
+    a: PointSet,
+    op: PairOperation,
+    rest: Rest,
+    pack: &mut [f64],
+) -> Result<(), Refusal> {
     unstructured::points_auto(
-        part(floats, p.a.first, p.a.second),
-        part(floats, p.a.second, p.a.third),
-        part(floats, p.a.third, p.a.end),
-        set_at(words, 3),
-        edges_of(words, floats, p.edges),
-        part(floats, p.edges.list, p.edges.end),
-        kind_of(words, floats, p.value),
-        part(floats, p.value.list, p.value.end),
-        op_of(words),
-        shape_at(words, p.value.end),
-        slice,
+        a,
+        rest.edges,
+        rest.list,
+        rest.kind,
+        rest.value_list,
+        op,
+        rest.shape,
+        pack,
     )
 }
 
-fn points_cross(words: &[u64], floats: &[f64], p: Parts, slice: &mut [f64]) -> Outcome {
+fn points_cross(
+    a: PointSet,
+    b: PointSet,
+    op: PairOperation,
+    rest: Rest,
+    pack: &mut [f64],
+) -> Result<(), Refusal> {
     unstructured::points_cross(
-        part(floats, p.a.first, p.a.second),
-        part(floats, p.a.second, p.a.third),
-        part(floats, p.a.third, p.a.end),
-        set_at(words, 3),
-        part(floats, p.b.first, p.b.second),
-        part(floats, p.b.second, p.b.third),
-        part(floats, p.b.third, p.b.end),
-        set_at(words, p.a.end),
-        edges_of(words, floats, p.edges),
-        part(floats, p.edges.list, p.edges.end),
-        kind_of(words, floats, p.value),
-        part(floats, p.value.list, p.value.end),
-        op_of(words),
-        shape_at(words, p.value.end),
-        slice,
+        a,
+        b,
+        rest.edges,
+        rest.list,
+        rest.kind,
+        rest.value_list,
+        op,
+        rest.shape,
+        pack,
     )
 }
 
-pub fn points(words: &[u64], floats: &[f64], slice: &mut [f64]) -> Outcome {
-    let p = parts_of(words, 3, 3);
-    if word(words, 0) == 1 {
-        return points_cross(words, floats, p, slice);
-    }
-    points_auto(words, floats, p, slice)
+pub fn points(record: &mut Record, room: &mut [f64]) -> bool {
+    let head = read_head(record);
+    let a = read_set(record);
+    let b = if head.cross {
+        Some(read_set(record))
+    } else {
+        None
+    };
+    let rest = read_rest(record, head.form);
+    let n = record.count();
+    let pack = cases::lent(record, n, room);
+    let answer = match b {
+        Some(b) => points_cross(a, b, head.op, rest, &mut *pack),
+        None => points_auto(a, head.op, rest, &mut *pack),
+    };
+    cases::slice_agrees(record, answer, pack)
 }
 
-fn blocks_auto(words: &[u64], floats: &[f64], p: Parts, slice: &mut [f64]) -> Outcome {
+fn blocks_auto(
+    a: Block,
+    width: CellWidth,
+    op: PairOperation,
+    rest: Rest,
+    pack: &mut [f64],
+) -> Result<(), Refusal> {
     twopoint_cartesian::blocks_auto(
-        part(floats, p.a.first, p.a.second),
-        part(floats, p.a.second, p.a.third),
-        part(floats, p.a.third, p.a.fourth),
-        part(floats, p.a.fourth, p.a.end),
-        block_at(words, 3),
-        width_at(floats, p.widths),
-        edges_of(words, floats, p.edges),
-        part(floats, p.edges.list, p.edges.end),
-        kind_of(words, floats, p.value),
-        part(floats, p.value.list, p.value.end),
-        op_of(words),
-        shape_at(words, p.value.end),
-        slice,
+        a,
+        width,
+        rest.edges,
+        rest.list,
+        rest.kind,
+        rest.value_list,
+        op,
+        rest.shape,
+        pack,
     )
 }
 
-fn blocks_cross(words: &[u64], floats: &[f64], p: Parts, slice: &mut [f64]) -> Outcome {
+fn blocks_cross(
+    a: Block,
+    b: Block,
+    width: CellWidth,
+    op: PairOperation,
+    rest: Rest,
+    pack: &mut [f64],
+) -> Result<(), Refusal> {
     twopoint_cartesian::blocks_cross(
-        part(floats, p.a.first, p.a.second),
-        part(floats, p.a.second, p.a.third),
-        part(floats, p.a.third, p.a.fourth),
-        part(floats, p.a.fourth, p.a.end),
-        block_at(words, 3),
-        part(floats, p.b.first, p.b.second),
-        part(floats, p.b.second, p.b.third),
-        part(floats, p.b.third, p.b.fourth),
-        part(floats, p.b.fourth, p.b.end),
-        block_at(words, p.a.end),
-        width_at(floats, p.widths),
-        edges_of(words, floats, p.edges),
-        part(floats, p.edges.list, p.edges.end),
-        kind_of(words, floats, p.value),
-        part(floats, p.value.list, p.value.end),
-        op_of(words),
-        shape_at(words, p.value.end),
-        slice,
+        a,
+        b,
+        width,
+        rest.edges,
+        rest.list,
+        rest.kind,
+        rest.value_list,
+        op,
+        rest.shape,
+        pack,
     )
 }
 
-pub fn blocks(words: &[u64], floats: &[f64], slice: &mut [f64]) -> Outcome {
-    let p = parts_of(words, 9, 4);
-    if word(words, 0) == 1 {
-        return blocks_cross(words, floats, p, slice);
-    }
-    blocks_auto(words, floats, p, slice)
+pub fn blocks(record: &mut Record, room: &mut [f64]) -> bool {
+    let head = read_head(record);
+    let a = read_block(record);
+    let b = if head.cross {
+        Some(read_block(record))
+    } else {
+        None
+    };
+    let width = read_width(record);
+    let rest = read_rest(record, head.form);
+    let n = record.count();
+    let pack = cases::lent(record, n, room);
+    let answer = match b {
+        Some(b) => blocks_cross(a, b, width, head.op, rest, &mut *pack),
+        None => blocks_auto(a, width, head.op, rest, &mut *pack),
+    };
+    cases::slice_agrees(record, answer, pack)
 }

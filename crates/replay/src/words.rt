@@ -1,110 +1,64 @@
-// A record's words, as numbers and as floats. Nothing is asked of a position: past the record's end a word is 0, a float a NaN, and a part ends with the record.
-ghost use Rattle.std.specs.Prelude.{◌≡◌, ◌<◌, ◌≤◌, length};
+// A record's words, as numbers and as floats.
 
-// Byte k, 0 past the end.
-fn byte(b: &[u8], k: usize) -> u64
-    ensures { result < 256 }
-{
-    if k < b.len() { b[k] as u64 } else { 0 }
+// What is left of a record: its words, and the floats of the same bits. Past its end a word is 0, a float a NaN, and a slice is as long as the record has it.
+#[derive(Clone, Copy)]
+pub struct Record<'a> {
+    pub words: &'a [u64],
+    pub floats: &'a [f64],
 }
 
-// The little-endian word whose lowest byte is at k.
-pub fn word_of(b: &[u8], k: usize) -> u64
-    requires { k ≤ 65536 }
-{
-    let w6 = byte(b, k + 6) + 256 * byte(b, k + 7);
-    let w4 = byte(b, k + 4) + 256 * (byte(b, k + 5) + 256 * w6);
-    let w2 = byte(b, k + 2) + 256 * (byte(b, k + 3) + 256 * w4);
-    byte(b, k) + 256 * (byte(b, k + 1) + 256 * w2)
-}
+impl<'a> Record<'a> {
+    fn skip(&mut self, n: usize) {
+        self.words = &self.words[n.min(self.words.len())..];
+        self.floats = &self.floats[n.min(self.floats.len())..];
+    }
 
-// The record's words, by their bytes, and the floats of these bits.
-pub fn decode(bytes: &[u8], words: &mut [u64], floats: &mut [f64])
-    requires { (length words.old ≤ 8192) × (length floats.old ≡ length words.old) }
-{
-    let mut i = 0;
-    while i < words.len() {
-        words[i] = word_of(bytes, i * 8);
-        floats[i] = floats::from_bits(words[i]);
-        i += 1;
+    pub fn word(&mut self) -> u64 {
+        let word = self.words.first().copied().unwrap_or(0);
+        self.skip(1);
+        word
+    }
+
+    // A word as an index or a count.
+    pub fn count(&mut self) -> usize {
+        self.word() as usize
+    }
+
+    pub fn signed(&mut self) -> i64 {
+        self.word().cast_signed()
+    }
+
+    pub fn float(&mut self) -> f64 {
+        let float = self.floats.first().copied().unwrap_or(f64::NAN);
+        self.skip(1);
+        float
+    }
+
+    pub fn floats(&mut self, n: usize) -> &'a [f64] {
+        let floats = self.floats;
+        self.skip(n);
+        &floats[..n.min(floats.len())]
+    }
+
+    // Whether these words are what is left.
+    pub fn has_words(self, words: &[u64]) -> bool {
+        self.words == words
+    }
+
+    // Whether the bits of these numbers are what is left, a NaN's its own.
+    pub fn has_floats(self, numbers: &[f64]) -> bool {
+        numbers
+            .iter()
+            .map(|x| floats::to_bits(*x))
+            .eq(self.words.iter().copied())
     }
 }
 
-pub fn word(words: &[u64], i: usize) -> u64 {
-    if i < words.len() { words[i] } else { 0 }
-}
-
-// Word i as an index or a count.
-pub fn count(words: &[u64], i: usize) -> usize {
-    word(words, i) as usize
-}
-
-// Word i in two's complement, rounded to an f64 where it is below -2^53.
-pub fn signed(words: &[u64], i: usize) -> i64 {
-    let bits = word(words, i);
-    if bits < 0x8000_0000_0000_0000 {
-        return bits as i64;
+// The words of these bytes, little-endian, and the floats of the same bits.
+pub fn decode(bytes: &[u8], words: &mut [u64], floats: &mut [f64]) {
+    let (eights, _) = bytes.as_chunks::<8>();
+    for ((eight, word), float) in eights.iter().zip(words.iter_mut()).zip(floats.iter_mut()) {
+        *word = u64::from_le_bytes(*eight);
+        *float = floats::from_bits(*word);
     }
-    let x = -1.0 - std::num::nearest_u64_to_f64(0xffff_ffff_ffff_ffff - bits);
-    if x >= -9223372036854775808.0 {
-        if x < 9223372036854775808.0 {
-            return std::num::truncating_f64_to_i64(x);
-        }
-    }
-    0
-}
-
-pub fn float(floats: &[f64], i: usize) -> f64 {
-    if i < floats.len() {
-        floats[i]
-    } else {
-        0.0 / 0.0
-    }
-}
-
-// The position n words after `at`. Far past every record's end 65536 stands for all positions.
-pub fn after(at: usize, n: usize) -> usize {
-    if at < 65536 {
-        if n < 65536 {
-            return at + n;
-        }
-    }
-    65536
-}
-
-pub fn least(a: usize, b: usize) -> usize
-    ensures { result ≤ b }
-{
-    if a < b { a } else { b }
-}
-
-// The floats from `start` to `end`, as far as the record has them.
-pub fn part(floats: &[f64], start: usize, end: usize) -> &[f64] {
-    let last = least(end, floats.len());
-    let first = least(start, last);
-    &floats[first..last]
-}
-
-// The floats from `at` on, copied for a call to work on.
-pub fn load(floats: &[f64], at: usize, to: &mut [f64]) {
-    let mut i = 0;
-    while i < to.len() {
-        to[i] = float(floats, after(at, i));
-        i += 1;
-    }
-}
-
-// The words from `at` to the record's end are the bits of these numbers, a NaN its own.
-pub fn same(numbers: &[f64], words: &[u64], at: usize) -> bool {
-    if after(at, numbers.len()) != words.len() {
-        return false;
-    }
-    let mut i = 0;
-    while i < numbers.len() {
-        if floats::to_bits(numbers[i]) != word(words, after(at, i)) {
-            return false;
-        }
-        i += 1;
-    }
-    true
 }

@@ -10,19 +10,20 @@ use lib.ListN.{length}
 use lib.Ieee.{Float}
 use mir.Syntax.{w64}
 use mir.Val.{Fits}
-use borrow.Author.Tests.{lt-ltb, le-ltb, le-leb, lt-leb, eq-eqb, ne_eqb, ltb-true, ltb-false}
+use borrow.Author.Tests.{lt-ltb, le-ltb, le-leb, lt-leb, ne_eqb, ltb-true, ltb-false}
 use Rattle.definitions.specs.Bins as definitions
 use Rattle.definitions.specs.Bins.{bins}
 use Rattle.definitions.specs.Reducer.{state_kind, kind_size}
 use Rattle.definitions.specs.Reducer as kinds
 use Rattle.definitions.specs.Rules.{rule, refusal, over_state, over_pack, edge_rules, edges_call_rules, kind_rules}
 use Rattle.laws.proofs.Refusals.{or_else}
-use Rattle.bins.specs.declared.RegularNew.{RegularNew}
-use Rattle.bins.specs.declared.RegularNew.TheVariants as new
-use Rattle.edge_validation.specs.declared.Validated.{Validated}
-use Rattle.edge_validation.specs.declared.Validated.TheVariants as valid
-use Rattle.bins.specs.Answers.{new_number}
-use Rattle.edge_validation.specs.Answers.{valid_number}
+use Rattle.std.specs.Prelude.{IsErrAnd}
+use Rattle.std.specs.declared.result.Result.{Result}
+use Rattle.std.specs.declared.result.Result.TheVariants.{Ok, Err}
+use Rattle.refusals.specs.declared.Refusal.{Refusal}
+use Rattle.refusals.specs.Numbers.{refusal_number, number_of}
+use Rattle.refusals.proofs.Answers.{number_nonzero, number_carried}
+use Rattle.bins.specs.declared.RegularBinEdges.{RegularBinEdges}
 use Rattle.state_refusals.proofs.Refusals.{kind_over}
 use Rattle.reducer.specs.declared.Edges.{Edges}
 use Rattle.reducer.specs.declared.Edges.TheVariants.{Regular, Irregular}
@@ -42,9 +43,6 @@ module _ (edges : Edges) (list : List Float) where
   pub bins_irregular : edges ≡ Irregular → length list - 1 ≡ bins (edges_of edges list)
   unfolding definitions.bins
   bins_irregular m = rw m
-
-  pub bins_none : edges ≡ Irregular → length list ≡ 0 → 0 ≡ bins (edges_of edges list)
-  bins_none m h = (rw h) ∙ bins_irregular m
 
 pub size_histogram : (kind : Kind) (list : List Float) (e : Edges) (n : ℕ) → kind ≡ ComponentSumHistogram e → n ≡ bins (edges_of e list) → n ≡ kind_size (kind_of kind list)
 size_histogram kind list e n m h = rw m h
@@ -68,27 +66,20 @@ module _ (sets : Bool) (n size states stated : ℕ) where
     unfolding over_numbers
     over_pack_law h k r q = rw (t, le-ltb 256 n h, le-ltb 256 size k) q
 
--- ---- edges
+-- ---- edges; a is what `new` answered, s what is returned
 module _ (edges : Edges) (list : List Float) where
-  module _ (min max : Float) (n : ℕ) (m : edges ≡ Regular min max n) (r : RegularNew) (q : new_number r ≡ refusal (edges_call_rules (definitions.regular min max n))) where
-    by_new : (a : RegularNew) → r ≡ a → new_number a ≡ refusal (edges_call_rules (edges_of edges list))
-    by_new a t = sym (ap new_number t) ∙ q ∙ (rw m)
+  module _ (min max : Float) (n : ℕ) (m : edges ≡ Regular min max n) (a : Result RegularBinEdges Refusal) (q : number_of a ≡ refusal (edges_call_rules (definitions.regular min max n))) where
+    by_new : (b : Result RegularBinEdges Refusal) → a ≡ b → number_of b ≡ refusal (edges_call_rules (edges_of edges list))
+    by_new b t = sym (ap number_of t) ∙ q ∙ (rw m)
 
-    pub new_made : (e : _) → r ≡ new.Made e → 0 ≡ refusal (edges_call_rules (edges_of edges list))
-    new_made e t = by_new (new.Made e) t
+    pub new_made : (e : RegularBinEdges) → a ≡ Ok e → 0 ≡ refusal (edges_call_rules (edges_of edges list))
+    new_made e t = by_new (Ok e) t
 
-    pub new_refused : (k : ℕ) → r ≡ new.Refused k → k ≡ refusal (edges_call_rules (edges_of edges list))
-    new_refused k t = by_new (new.Refused k) t
+    pub new_refused : (r : Refusal) → a ≡ Err r → (s : Result (Unit {0}) Refusal) → IsErrAnd s (λ t. t ≡ r) → number_of s ≡ refusal (edges_call_rules (edges_of edges list))
+    new_refused r t s k = number_carried s r k ∙ by_new (Err r) t
 
-  module _ (m : edges ≡ Irregular) (r : Validated) (q : valid_number r ≡ refusal (edges_call_rules (definitions.irregular list))) where
-    by_valid : (a : Validated) → r ≡ a → valid_number a ≡ refusal (edges_call_rules (edges_of edges list))
-    by_valid a t = sym (ap valid_number t) ∙ q ∙ (rw m)
-
-    pub valid_accepted_law : r ≡ valid.Accepted → 0 ≡ refusal (edges_call_rules (edges_of edges list))
-    valid_accepted_law t = by_valid valid.Accepted t
-
-    pub valid_refused : (k : ℕ) → r ≡ valid.Refused k → k ≡ refusal (edges_call_rules (edges_of edges list))
-    valid_refused k t = by_valid (valid.Refused k) t
+  pub validated : edges ≡ Irregular → (s : Result (Unit {0}) Refusal) → number_of s ≡ refusal (edges_call_rules (definitions.irregular list)) → number_of s ≡ refusal (edges_call_rules (edges_of edges list))
+  validated m s q = q ∙ (rw m)
 
 pub kind_histogram : (kind : Kind) (list : List Float) (e : Edges) (n : ℕ) → kind ≡ ComponentSumHistogram e → n ≡ refusal (edges_call_rules (edges_of e list))
     → n ≡ refusal (rule 7 (over_state (state_kind (kind_of kind list))) ∷ kind_rules (kind_of kind list))
@@ -118,17 +109,24 @@ module _ (shape : Shape) (n size len : ℕ) (a : Bool) (p : a ≡ not (eqb shape
     pub shape_0 : b ≡ false → 0 ≡ refusal (shape_rules shape n size len)
     shape_0 u = rw (← p, t, ← q, u)
 
--- ---- one refusal after another; x and y are what calls answered
-here : (a b x : ℕ) → x ≡ a → (x ≡ 0 → ⊥) → x ≡ or_else a b
-here a b x q z = rw (← q, ne_eqb x 0 z)
+-- ---- one refusal after another; a is what a call answered
+abbrev pub Answer : Type 0
+Answer = Result (Unit {0}) Refusal
 
-next : (a b x y : ℕ) → x ≡ a → x ≡ 0 → y ≡ b → y ≡ or_else a b
-next a b x y q z h = rw (← q, eq-eqb x 0 z) h
+-- what `?` hands on
+here : (a s : Answer) (x y : ℕ) → number_of a ≡ x → (r : Refusal) → a ≡ Err r → IsErrAnd s (λ t. t ≡ r) → number_of s ≡ or_else x y
+here a s x y q r e k = number_carried s r k ∙ (rw (← q, e, ne_eqb (refusal_number r) 0 (number_nonzero r)))
+
+next : (a : Answer) (x y z : ℕ) → number_of a ≡ x → (v : Unit {0}) → a ≡ Ok v → z ≡ y → z ≡ or_else x y
+next a x y z q v e h = rw (← q, e) h
 
 -- ---- a run
-module _ (over : Bool) (sets pairs : ℕ) (e : definitions.Edges) (k : kinds.Kind) (shape : Shape) (len : ℕ) (n size : ℕ) (a : n ≡ bins e) (b : size ≡ kind_size k)
+module _ (over : Bool) (sets pairs : Answer) (e : definitions.Edges) (k : kinds.Kind) (shape : Shape) (len : ℕ) (n size : ℕ) (a : n ≡ bins e) (b : size ≡ kind_size k)
     (r : Bool) (q : r ≡ over_numbers over n size shape.n_states shape.state_size) where
-  pub run_over : r ≡ true → 7 ≡ run_number over sets pairs e k shape len
+  abbrev the_run : ℕ
+  the_run = run_number over (number_of sets) (number_of pairs) e k shape len
+
+  pub run_over : r ≡ true → 7 ≡ the_run
   unfolding run_number
   run_over t = rw (← a, ← b, ← q, t)
 
@@ -139,33 +137,36 @@ module _ (over : Bool) (sets pairs : ℕ) (e : definitions.Edges) (k : kinds.Kin
     pub run_size : size ≤ 256
     run_size = ltb-false 256 size (none_over over n size shape.n_states shape.state_size (sym q ∙ t)).2
 
-    rest : run_number over sets pairs e k shape len ≡ or_else sets (or_else (refusal (edge_rules e)) (or_else (refusal (kind_rules k)) (or_else pairs (refusal (shape_rules shape n size len)))))
+    rest : the_run ≡ or_else (number_of sets) (or_else (refusal (edge_rules e)) (or_else (refusal (kind_rules k)) (or_else (number_of pairs) (refusal (shape_rules shape n size len)))))
     unfolding run_number
     rest = rw (← a, ← b, ← q, t)
 
-    pub run_sets : (sets ≡ 0 → ⊥) → sets ≡ run_number over sets pairs e k shape len
-    run_sets z = here sets _ sets refl z ∙ sym rest
+    pub run_sets : (c : Refusal) → sets ≡ Err c → (s : Answer) → IsErrAnd s (λ t. t ≡ c) → number_of s ≡ the_run
+    run_sets c f s h = here sets s (number_of sets) _ refl c f h ∙ sym rest
 
-    module _ (z : sets ≡ 0) (x : ℕ) (f : x ≡ refusal (edges_call_rules e)) where
-      edge : x ≡ refusal (edge_rules e)
+    module _ (v : Unit {0}) (z : sets ≡ Ok v) (x : Answer) (f : number_of x ≡ refusal (edges_call_rules e)) where
+      edge : number_of x ≡ refusal (edge_rules e)
       edge = f ∙ (rw (← a, le-ltb 256 n run_bins))
 
-      pub run_edges : (x ≡ 0 → ⊥) → x ≡ run_number over sets pairs e k shape len
-      run_edges y = next sets _ sets x refl z (here (refusal (edge_rules e)) _ x edge y) ∙ sym rest
+      after_sets : (w : ℕ) → w ≡ or_else (refusal (edge_rules e)) (or_else (refusal (kind_rules k)) (or_else (number_of pairs) (refusal (shape_rules shape n size len)))) → w ≡ the_run
+      after_sets w h = next sets (number_of sets) _ w refl v z h ∙ sym rest
 
-      module _ (y : x ≡ 0) (u : ℕ) (g : u ≡ refusal (rule 7 (over_state (state_kind k)) ∷ kind_rules k)) where
-        value_edge : u ≡ refusal (kind_rules k)
+      pub run_edges : (c : Refusal) → x ≡ Err c → (s : Answer) → IsErrAnd s (λ t. t ≡ c) → number_of s ≡ the_run
+      run_edges c g s h = after_sets (number_of s) (here x s (refusal (edge_rules e)) _ edge c g h)
+
+      module _ (v2 : Unit {0}) (y : x ≡ Ok v2) (u : Answer) (g : number_of u ≡ refusal (rule 7 (over_state (state_kind k)) ∷ kind_rules k)) where
+        value_edge : number_of u ≡ refusal (kind_rules k)
         value_edge = g ∙ (rw (kind_over (state_kind k), ← b, le-ltb 256 size run_size))
 
-        after_edges : (w : ℕ) → w ≡ or_else (refusal (kind_rules k)) (or_else pairs (refusal (shape_rules shape n size len))) → w ≡ run_number over sets pairs e k shape len
-        after_edges w h = next sets _ sets w refl z (next (refusal (edge_rules e)) _ x w edge y h) ∙ sym rest
+        after_edges : (w : ℕ) → w ≡ or_else (refusal (kind_rules k)) (or_else (number_of pairs) (refusal (shape_rules shape n size len))) → w ≡ the_run
+        after_edges w h = after_sets w (next x (refusal (edge_rules e)) _ w edge v2 y h)
 
-        pub run_kind : (u ≡ 0 → ⊥) → u ≡ run_number over sets pairs e k shape len
-        run_kind v = after_edges u (here (refusal (kind_rules k)) _ u value_edge v)
+        pub run_kind : (c : Refusal) → u ≡ Err c → (s : Answer) → IsErrAnd s (λ t. t ≡ c) → number_of s ≡ the_run
+        run_kind c i s h = after_edges (number_of s) (here u s (refusal (kind_rules k)) _ value_edge c i h)
 
-        module _ (v : u ≡ 0) where
-          pub run_pairs : (pairs ≡ 0 → ⊥) → pairs ≡ run_number over sets pairs e k shape len
-          run_pairs w = after_edges pairs (next (refusal (kind_rules k)) _ u pairs value_edge v (here pairs _ pairs refl w))
+        module _ (v3 : Unit {0}) (i : u ≡ Ok v3) where
+          pub run_pairs : (c : Refusal) → pairs ≡ Err c → (s : Answer) → IsErrAnd s (λ t. t ≡ c) → number_of s ≡ the_run
+          run_pairs c j s h = after_edges (number_of s) (next u (refusal (kind_rules k)) _ (number_of s) value_edge v3 i (here pairs s (number_of pairs) _ refl c j h))
 
-          pub run_shape : pairs ≡ 0 → (w : ℕ) → w ≡ refusal (shape_rules shape n size len) → w ≡ run_number over sets pairs e k shape len
-          run_shape o w h = after_edges w (next (refusal (kind_rules k)) _ u w value_edge v (next pairs _ pairs w refl o h))
+          pub run_shape : (v4 : Unit {0}) → pairs ≡ Ok v4 → (s : Answer) → number_of s ≡ refusal (shape_rules shape n size len) → number_of s ≡ the_run
+          run_shape v4 j s h = after_edges (number_of s) (next u (refusal (kind_rules k)) _ (number_of s) value_edge v3 i (next pairs (number_of pairs) _ (number_of s) refl v4 j h))

@@ -5,13 +5,14 @@ ghost use Rattle.std.specs.Prelude.{◌≡◌, ◌∷◌, not, ◌&&◌, ◌*◌
 ghost use Rattle.definitions.specs.Bins.{bins};
 ghost use Rattle.definitions.specs.Reducer.{state_kind, kind_size};
 ghost use Rattle.definitions.specs.Rules.{rule, refusal, over_state, edges_call_rules, kind_rules};
+ghost use Rattle.refusals.specs.Numbers.{number_of};
 ghost use Rattle.reducer.specs.Readings.{edges_of, kind_of};
 ghost use Rattle.parallel_serial.specs.Drive.{over_numbers, shape_rules, run_number};
 
-use bins::{RegularBinEdges, RegularNew};
-use edge_validation::Validated;
+use bins::RegularBinEdges;
 use parallel_serial::Shape;
 use reducer::{Edges, Kind};
+use refusals::Refusal;
 
 // ---- numbers of a run
 
@@ -21,12 +22,7 @@ pub fn n_bins(edges: Edges, list: &[f64]) -> usize
 {
     match edges {
         Edges::Regular(_, _, n) => n,
-        Edges::Irregular => {
-            if list.len() == 0 {
-                return 0;
-            }
-            list.len() - 1
-        }
+        Edges::Irregular => list.len().saturating_sub(1),
     }
 }
 
@@ -59,27 +55,25 @@ fn run_over(sets_over: bool, n_bins: usize, size: usize, shape: Shape) -> bool
     state_refusals::product_over(shape.n_states, shape.state_size, 4096)
 }
 
-pub fn edges_refusal(edges: Edges, list: &[f64]) -> u32
-    ensures { result ≡ refusal (edges_call_rules (edges_of edges list.now)) }
+pub fn edges_refusal(edges: Edges, list: &[f64]) -> Result<(), Refusal>
+    ensures { number_of result ≡ refusal (edges_call_rules (edges_of edges list.now)) }
 {
     match edges {
-        Edges::Regular(min, max, n) => match RegularBinEdges::new(min, max, n) {
-            RegularNew::Made(_) => 0,
-            RegularNew::Refused(number) => number,
-        },
-        Edges::Irregular => match edge_validation::validate_bin_edges(list) {
-            Validated::Accepted => 0,
-            Validated::Refused(number) => number,
-        },
+        Edges::Regular(min, max, n) => {
+            RegularBinEdges::new(min, max, n)?;
+            Ok(())
+        }
+        Edges::Irregular => edge_validation::validate_bin_edges(list),
     }
 }
 
-pub fn kind_refusal(kind: Kind, value_edges: &[f64]) -> u32
-    ensures { result ≡ refusal (rule 7 (over_state (state_kind (kind_of kind value_edges.now))) ∷ kind_rules (kind_of kind value_edges.now)) }
+pub fn kind_refusal(kind: Kind, value_edges: &[f64]) -> Result<(), Refusal>
+    ensures { number_of result ≡ refusal (rule 7 (over_state (state_kind (kind_of kind value_edges.now)))
+        ∷ kind_rules (kind_of kind value_edges.now)) }
 {
     match kind {
-        Kind::Comp0Mean => 0,
-        Kind::ComponentSumMean => 0,
+        Kind::Comp0Mean => Ok(()),
+        Kind::ComponentSumMean => Ok(()),
         Kind::ComponentSumHistogram(e) => edges_refusal(e, value_edges),
     }
 }
@@ -108,53 +102,43 @@ fn pack_unfit(shape: Shape, n_bins: usize, size: usize, len: usize) -> bool
     n_bins * size > len
 }
 
-fn shape_refusal(shape: Shape, n_bins: usize, size: usize, len: usize) -> u32
+fn shape_refusal(shape: Shape, n_bins: usize, size: usize, len: usize) -> Result<(), Refusal>
     requires { (n_bins ≤ 256) × (size ≤ 256) }
-    ensures { result ≡ refusal (shape_rules shape n_bins size len) }
+    ensures { number_of result ≡ refusal (shape_rules shape n_bins size len) }
 {
     let teams = not_single(shape);
     let unfit = pack_unfit(shape, n_bins, size, len);
     if teams {
-        return 23;
+        return Err(Refusal::NotSingle);
     }
     if unfit {
-        return 24;
+        return Err(Refusal::PackShape);
     }
-    0
+    Ok(())
 }
 
-// The first broken rule of a run. Of its points or blocks: whether they are over a limit, the number of their own rules, and that of the rules on their pairs.
+// The first broken rule of a run. Of its points or blocks: whether they are over a limit, what their own rules say, and what the rules on their pairs.
 pub fn run_refusal(
     sets_over: bool,
-    sets_number: u32,
-    pairs_number: u32,
+    sets: Result<(), Refusal>,
+    pairs: Result<(), Refusal>,
     edges: Edges,
     list: &[f64],
     kind: Kind,
     value_edges: &[f64],
     shape: Shape,
     len: usize,
-) -> u32
-    ensures { result ≡ run_number sets_over sets_number pairs_number (edges_of edges list.now) (kind_of kind value_edges.now) shape len }
+) -> Result<(), Refusal>
+    ensures { number_of result ≡ run_number sets_over (number_of sets) (number_of pairs) (edges_of edges list.now) (kind_of kind value_edges.now) shape len }
 {
     let n_bins = n_bins(edges, list);
     let size = state_size(kind, value_edges);
     if run_over(sets_over, n_bins, size, shape) {
-        return 7;
+        return Err(Refusal::OverLimit);
     }
-    if sets_number != 0 {
-        return sets_number;
-    }
-    let edge = edges_refusal(edges, list);
-    if edge != 0 {
-        return edge;
-    }
-    let value_edge = kind_refusal(kind, value_edges);
-    if value_edge != 0 {
-        return value_edge;
-    }
-    if pairs_number != 0 {
-        return pairs_number;
-    }
+    sets?;
+    edges_refusal(edges, list)?;
+    kind_refusal(kind, value_edges)?;
+    pairs?;
     shape_refusal(shape, n_bins, size, len)
 }

@@ -1,14 +1,15 @@
 -- What follows of blocks that are within the limits. Assumes nothing.
 use mathlib.Core.Path.{◌≡◌, sym, ◌∙◌}
-use mathlib.Core.Bool.{Bool, true, false, not, ◌&&◌, true≢false}
-use mathlib.Core.List.{[]}
+use mathlib.Core.Bool.{Bool, false, not, ◌&&◌}
 use lib.Dec.{ltb}
 use borrow.Author.Tests.{ltb-false}
 use Rattle.definitions.specs.Blocks.{CartesianBlock, required_length}
 use Rattle.definitions.specs.Rules.{outside, zero_axis, over_block, over_sets}
 use Rattle.spatial.specs.declared.Block.{Block}
-use Rattle.spatial.specs.Readings.{block_of}
-use Rattle.spatial.specs.Refusals.{sets_for, no_width, Limited}
+use Rattle.spatial.specs.declared.Sets.{Sets}
+use Rattle.spatial.specs.declared.Sets.TheVariants.{Auto, Cross}
+use Rattle.spatial.specs.Readings.{block_of, sets_of}
+use Rattle.spatial.specs.Refusals.{no_width, Limited, AllLimited}
 use Rattle.spatial.proofs.Refusals.{either}
 
 pub record Numbers (b : CartesianBlock) : Type 0 where
@@ -35,9 +36,9 @@ numbers b h =
     let j = either (ltb 64 b.nz) (ltb 64 b.ny) i.0 in
     record { nz = j.0; ny = j.1; nx = i.1; sz = c.1; sy = d.1; sx = e.1; gz = z.1; gy = y.1; gx = x.1 }
 
-block_limited : (b : Block) → over_block (block_of b [] [] [] []) ≡ false → Limited b
+block_limited : (b : Block) → over_block (block_of b) ≡ false → Limited b
 block_limited b h =
-    let n = numbers (block_of b [] [] [] []) h in
+    let n = numbers (block_of b) h in
     record {
       z_axis = ltb-false 64 b.nz n.nz;
       y_axis = ltb-false 64 b.ny n.ny;
@@ -48,17 +49,6 @@ block_limited b h =
     }
 
 -- r is what a call answered
-module _ (auto : Bool) (a b : Block) (r : Bool) (q : r ≡ over_sets (sets_for auto no_width (block_of a [] [] [] []) (block_of b [] [] [] []))) (t : r ≡ false) where
-  pub limited_first : Limited a
-  limited_first = go auto (sym q ∙ t)
-    where
-      go : (u : Bool) → over_sets (sets_for u no_width (block_of a [] [] [] []) (block_of b [] [] [] [])) ≡ false → Limited a
-      go true h = block_limited a h
-      go false h = block_limited a (either (over_block (block_of a [] [] [] [])) (over_block (block_of b [] [] [] [])) h).0
-
-  pub limited_second : auto ≡ false → Limited b
-  limited_second u = go auto (sym q ∙ t) u
-    where
-      go : (u : Bool) → over_sets (sets_for u no_width (block_of a [] [] [] []) (block_of b [] [] [] [])) ≡ false → u ≡ false → Limited b
-      go true h e = absurd (true≢false e)
-      go false h e = block_limited b (either (over_block (block_of a [] [] [] [])) (over_block (block_of b [] [] [] [])) h).1
+pub all_limited : (s : Sets) (r : Bool) → r ≡ over_sets (sets_of s no_width) → r ≡ false → AllLimited s
+all_limited (Auto a) r q t = block_limited a (sym q ∙ t)
+all_limited (Cross a b) r q t = let h = either (over_block (block_of a)) (over_block (block_of b)) (sym q ∙ t) in (block_limited a h.0, block_limited b h.1)

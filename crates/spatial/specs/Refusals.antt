@@ -1,16 +1,12 @@
 -- What the functions that judge a run promise: the definitions' tests in parts.
-use Rattle.std.specs.Prelude.{Bool, true, false, not, ◌&&◌, ◌||◌, ◌≤◌, ltb}
+use Rattle.std.specs.Prelude.{Bool, not, ◌&&◌, ◌||◌, ◌≤◌, ltb}
 use Rattle.std.specs.Float.{nan}
 use Rattle.definitions.specs.Blocks as Blocks
 use Rattle.definitions.specs.Blocks.{CartesianBlock, required_length}
-use Rattle.definitions.specs.Run.{Sets, one_block, two_blocks}
 use Rattle.definitions.specs.Rules.{outside, zero_axis}
 use Rattle.spatial.specs.declared.Block.{Block}
-
--- in auto the two blocks are one
-abbrev pub sets_for : Bool → Blocks.CellWidth → CartesianBlock → CartesianBlock → Sets
-sets_for true w a b = one_block w a
-sets_for false w a b = two_blocks w a b
+use Rattle.spatial.specs.declared.Sets.{Sets}
+use Rattle.spatial.specs.declared.Sets.TheVariants.{Auto, Cross}
 
 -- limits and rules on pairs do not read the widths
 abbrev pub no_width : Blocks.CellWidth
@@ -34,3 +30,7 @@ pub record Limited (b : Block) : Type 0 where
   pub z_stride : b.sz ≤ 65536
   pub y_stride : b.sy ≤ 65536
   pub x_stride : b.sx ≤ 65536
+
+abbrev pub AllLimited : Sets → Type 0
+AllLimited (Auto a) = Limited a
+AllLimited (Cross a b) = Limited a × Limited b

@@ -1,20 +1,26 @@
 // A Cartesian block, the widths of its cells, and the refusals of a run over blocks (spatial.rs).
 #![tactic(auto)]
 
-ghost use Rattle.std.specs.Prelude.{◌≡◌, false, [], ◌≤◌};
+ghost use Rattle.std.specs.Prelude.{◌≡◌, false, ◌≤◌};
 ghost use Rattle.definitions.specs.Blocks.{required_length};
-ghost use Rattle.definitions.specs.Rules.{refusal, outside as outside_of, over_block, block_rules, width_rules, precedes as precedes_of, over_sets, set_rules, pair_rules};
+ghost use Rattle.definitions.specs.Rules.{refusal, zero_axis as zero_axis_of, outside as outside_of, over_block, block_rules, width_rules, precedes as precedes_of, over_sets, set_rules, pair_rules};
+ghost use Rattle.refusals.specs.Numbers.{number_of};
 ghost use Rattle.reducer.specs.Readings.{edges_of, kind_of};
 ghost use Rattle.parallel_serial.specs.Drive.{sets_number};
-ghost use Rattle.spatial.specs.Readings.{block_of, width_of};
-ghost use Rattle.spatial.specs.Refusals.{sets_for, no_width, numbers_over, length_over, globals_over, Limited};
+ghost use Rattle.spatial.specs.Readings.{block_of, width_of, first_of, second_of, sets_of};
+ghost use Rattle.spatial.specs.Refusals.{no_width, numbers_over, length_over, globals_over, Limited, AllLimited};
 
 use parallel_serial::Shape;
 use reducer::{Edges, Kind};
+use refusals::Refusal;
 
-// Axes, strides and global offsets in the order z, y, x.
+// The components and weights of its cells; axes, strides and global offsets in the order z, y, x.
 #[derive(Clone, Copy)]
-pub struct Block {
+pub struct Block<'a> {
+    pub comp0: &'a [f64],
+    pub comp1: &'a [f64],
+    pub comp2: &'a [f64],
+    pub weights: &'a [f64],
     pub nz: usize,
     pub ny: usize,
     pub nx: usize,
@@ -33,236 +39,182 @@ pub struct CellWidth {
     pub x: f64,
 }
 
+// What a run pairs: the cells of one block with each other, or those of a with those of b.
+#[derive(Clone, Copy)]
+pub enum Sets<'a> {
+    Auto(Block<'a>),
+    Cross(Block<'a>, Block<'a>),
+}
+
+impl<'a> Sets<'a> {
+    // The block of a pair's first cell.
+    pub fn first(self) -> Block<'a>
+        ensures { result ≡ first_of self.entry }
+    {
+        match self {
+            Sets::Auto(a) => a,
+            Sets::Cross(a, _) => a,
+        }
+    }
+
+    // The block of its second cell.
+    pub fn second(self) -> Block<'a>
+        ensures { result ≡ second_of self.entry }
+    {
+        match self {
+            Sets::Auto(a) => a,
+            Sets::Cross(_, b) => b,
+        }
+    }
+}
+
+#[tactic(auto, unfolding(crate::specs::Refusals::numbers_over))]
 fn numbers_over(b: Block) -> bool
-    ensures { result ≡ numbers_over (block_of b [] [] [] []) }
+    ensures { result ≡ numbers_over (block_of b.entry) }
 {
-    if b.nz > 64 {
-        return true;
-    }
-    if b.ny > 64 {
-        return true;
-    }
-    if b.nx > 64 {
-        return true;
-    }
-    if b.sz > 65536 {
-        return true;
-    }
-    if b.sy > 65536 {
-        return true;
-    }
-    b.sx > 65536
+    b.nz > 64 || b.ny > 64 || b.nx > 64 || b.sz > 65536 || b.sy > 65536 || b.sx > 65536
+}
+
+fn zero_axis(b: Block) -> bool
+    ensures { result ≡ zero_axis_of (block_of b.entry) }
+{
+    b.nz == 0 || b.ny == 0 || b.nx == 0
 }
 
 // The last cell's place and one more.
 fn required_length(b: Block) -> usize
     requires b_limited { Limited b }
-    requires z_axis { 1 ≤ b.nz }
-    requires y_axis { 1 ≤ b.ny }
-    ensures { result ≡ required_length (block_of b [] [] [] []) }
+    requires no_zero { zero_axis_of (block_of b) ≡ false }
+    ensures { result ≡ required_length (block_of b.entry) }
 {
     (b.nz - 1) * b.sz + (b.ny - 1) * b.sy + b.nx
 }
 
 // The length is judged only when no axis is zero.
+#[tactic(auto, using(crate::proofs::Refusals::length_zero, crate::proofs::Refusals::length_most))]
 fn length_over(b: Block) -> bool
     requires { Limited b }
-    ensures { result ≡ length_over (block_of b [] [] [] []) }
+    ensures { result ≡ length_over (block_of b.entry) }
 {
-    if b.nz == 0 {
-        return false;
-    }
-    if b.ny == 0 {
-        return false;
-    }
-    if b.nx == 0 {
-        return false;
-    }
-    required_length(b) > 65536
+    !zero_axis(b) && required_length(b) > 65536
 }
 
 fn outside(g: i64) -> bool
     ensures { result ≡ outside_of g }
 {
-    if g < -1_000_000 {
-        return true;
-    }
-    g > 1_000_000
+    g.unsigned_abs() > 1_000_000
 }
 
+#[tactic(auto, unfolding(crate::specs::Refusals::globals_over))]
 fn globals_over(b: Block) -> bool
-    ensures { result ≡ globals_over (block_of b [] [] [] []) }
+    ensures { result ≡ globals_over (block_of b.entry) }
 {
-    if outside(b.gz) {
-        return true;
-    }
-    if outside(b.gy) {
-        return true;
-    }
-    outside(b.gx)
+    outside(b.gz) || outside(b.gy) || outside(b.gx)
 }
 
+#[tactic(auto, using(crate::proofs::Refusals::limited, crate::proofs::Refusals::over_numbers_law, crate::proofs::Refusals::over_length, crate::proofs::Refusals::over_globals))]
 fn block_over(b: Block) -> bool
-    ensures { result ≡ over_block (block_of b [] [] [] []) }
+    ensures { result ≡ over_block (block_of b.entry) }
 {
-    if numbers_over(b) {
-        return true;
-    }
-    if length_over(b) {
-        return true;
-    }
-    globals_over(b)
+    numbers_over(b) || length_over(b) || globals_over(b)
 }
 
 // 14 to 19.
-fn block_refusal(comp0: &[f64], comp1: &[f64], comp2: &[f64], weights: &[f64], b: Block) -> u32
+fn block_refusal(b: Block) -> Result<(), Refusal>
     requires { Limited b }
-    ensures { result ≡ refusal (block_rules (block_of b comp0.now comp1.now comp2.now weights.now)) }
+    ensures { number_of result ≡ refusal (block_rules (block_of b.entry)) }
 {
-    if b.nz == 0 {
-        return 14;
-    }
-    if b.ny == 0 {
-        return 14;
-    }
-    if b.nx == 0 {
-        return 14;
+    if zero_axis(b) {
+        return Err(Refusal::EmptyAxis);
     }
     if b.sx != 1 {
-        return 15;
+        return Err(Refusal::XStride);
     }
     if b.sz < b.sy * b.ny {
-        return 16;
+        return Err(Refusal::ZStride);
     }
     if b.sy < b.sx * b.nx {
-        return 17;
+        return Err(Refusal::YStride);
     }
-    if weights.len() < required_length(b) {
-        return 18;
+    let n = b.weights.len();
+    if n < required_length(b) {
+        return Err(Refusal::BlockLength);
     }
-    if comp0.len() != weights.len() {
-        return 19;
+    if b.comp0.len() != n || b.comp1.len() != n || b.comp2.len() != n {
+        return Err(Refusal::ComponentsLength);
     }
-    if comp1.len() != weights.len() {
-        return 19;
-    }
-    if comp2.len() != weights.len() {
-        return 19;
-    }
-    0
+    Ok(())
 }
 
 // 20. NaN passes.
-fn width_refusal(width: CellWidth) -> u32
-    ensures { result ≡ refusal (width_rules (width_of width)) }
+fn width_refusal(width: CellWidth) -> Result<(), Refusal>
+    ensures { number_of result ≡ refusal (width_rules (width_of width)) }
 {
-    if width.z <= 0.0 {
-        return 20;
+    if width.z <= 0.0 || width.y <= 0.0 || width.x <= 0.0 {
+        return Err(Refusal::WidthNotPositive);
     }
-    if width.y <= 0.0 {
-        return 20;
-    }
-    if width.x <= 0.0 {
-        return 20;
-    }
-    0
+    Ok(())
 }
 
 // b's global offset before a's in z, y, x order.
 fn precedes(b: Block, a: Block) -> bool
-    ensures { result ≡ precedes_of (block_of b [] [] [] []) (block_of a [] [] [] []) }
+    ensures { result ≡ precedes_of (block_of b.entry) (block_of a.entry) }
 {
-    if b.gz < a.gz {
-        return true;
-    }
-    if a.gz < b.gz {
-        return false;
-    }
-    if b.gy < a.gy {
-        return true;
-    }
-    if a.gy < b.gy {
-        return false;
-    }
-    b.gx < a.gx
+    (b.gz, b.gy, b.gx) < (a.gz, a.gy, a.gx)
 }
 
 // 21, or in auto 22.
-fn pairs_refusal(auto: bool, a: Block, b: Block) -> u32
-    requires { Limited a }
-    ensures { result ≡ refusal (pair_rules (sets_for auto no_width (block_of a [] [] [] []) (block_of b [] [] [] []))) }
+fn pairs_refusal(sets: Sets) -> Result<(), Refusal>
+    requires { AllLimited sets }
+    ensures { number_of result ≡ refusal (pair_rules (sets_of sets.entry no_width)) }
 {
-    if auto {
-        if a.nz * (a.ny * a.nx) < 2 {
-            return 22;
+    match sets {
+        Sets::Auto(a) => {
+            if a.nz * (a.ny * a.nx) < 2 {
+                return Err(Refusal::NoPairs);
+            }
+            Ok(())
         }
-        return 0;
+        Sets::Cross(a, b) => {
+            if precedes(b, a) {
+                return Err(Refusal::BlockOrder);
+            }
+            Ok(())
+        }
     }
-    if precedes(b, a) {
-        return 21;
-    }
-    0
 }
 
-fn sets_over(auto: bool, a: Block, b: Block) -> bool
-    ensures { result ≡ over_sets (sets_for auto no_width (block_of a [] [] [] []) (block_of b [] [] [] [])) }
+fn sets_over(sets: Sets) -> bool
+    ensures { result ≡ over_sets (sets_of sets.entry no_width) }
 {
-    if block_over(a) {
-        return true;
+    match sets {
+        Sets::Auto(a) => block_over(a),
+        Sets::Cross(a, b) => block_over(a) || block_over(b),
     }
-    if auto {
-        return false;
-    }
-    block_over(b)
 }
 
 // The blocks, a before b, then the widths.
-fn sets_refusal(
-    auto: bool,
-    a0: &[f64],
-    a1: &[f64],
-    a2: &[f64],
-    aw: &[f64],
-    a: Block,
-    b0: &[f64],
-    b1: &[f64],
-    b2: &[f64],
-    bw: &[f64],
-    b: Block,
-    width: CellWidth,
-) -> u32
-    requires a_limited { Limited a }
-    requires b_limited { (auto ≡ false → Limited b) }
-    ensures { result ≡ refusal (set_rules (sets_for auto (width_of width) (block_of a a0.now a1.now a2.now aw.now)
-        (block_of b b0.now b1.now b2.now bw.now))) }
+fn sets_refusal(sets: Sets, width: CellWidth) -> Result<(), Refusal>
+    requires { AllLimited sets }
+    ensures { number_of result ≡ refusal (set_rules (sets_of sets.entry (width_of width))) }
 {
-    let first = block_refusal(a0, a1, a2, aw, a);
-    if first != 0 {
-        return first;
+    match sets {
+        Sets::Auto(block) => {
+            block_refusal(block)?;
+            width_refusal(width)
+        }
+        Sets::Cross(a, b) => {
+            block_refusal(a)?;
+            block_refusal(b)?;
+            width_refusal(width)
+        }
     }
-    if auto {
-        return width_refusal(width);
-    }
-    let second = block_refusal(b0, b1, b2, bw, b);
-    if second != 0 {
-        return second;
-    }
-    width_refusal(width)
 }
 
 // The first broken rule of a run.
+#[tactic(auto, using(crate::proofs::Limits::all_limited, crate::proofs::Runs::number_7, crate::proofs::Runs::number_is))]
 pub fn run_refusal(
-    auto: bool,
-    a0: &[f64],
-    a1: &[f64],
-    a2: &[f64],
-    aw: &[f64],
-    a: Block,
-    b0: &[f64],
-    b1: &[f64],
-    b2: &[f64],
-    bw: &[f64],
-    b: Block,
+    sets: Sets,
     width: CellWidth,
     edges: Edges,
     list: &[f64],
@@ -270,18 +222,17 @@ pub fn run_refusal(
     value_edges: &[f64],
     shape: Shape,
     len: usize,
-) -> u32
-    ensures { result ≡ sets_number (sets_for auto (width_of width) (block_of a a0.now a1.now a2.now aw.now)
-        (block_of b b0.now b1.now b2.now bw.now)) (edges_of edges list.now) (kind_of kind value_edges.now) shape len }
+) -> Result<(), Refusal>
+    ensures { number_of result ≡ sets_number (sets_of sets.entry (width_of width)) (edges_of edges list.now) (kind_of kind value_edges.now) shape len }
 {
-    if sets_over(auto, a, b) {
-        return 7;
+    if sets_over(sets) {
+        return Err(Refusal::OverLimit);
     }
-    let sets = sets_refusal(auto, a0, a1, a2, aw, a, b0, b1, b2, bw, b, width);
-    let pairs = pairs_refusal(auto, a, b);
+    let own = sets_refusal(sets, width);
+    let pairs = pairs_refusal(sets);
     run_refusals::run_refusal(
         false,
-        sets,
+        own,
         pairs,
         edges,
         list,

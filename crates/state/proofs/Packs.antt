@@ -1,6 +1,6 @@
 -- Turns of the loops over a pack, and the consolidation, pack by pack in the code and place by place in its definition.
 use mathlib.Core.Path.{◌≡◌, refl, sym, ◌∙◌, ap}
-use mathlib.Core.Option.{Option, some}
+use Rattle.std.specs.Prelude.{Option, Some}
 use mathlib.Core.Bool.{false}
 use mathlib.Core.List.{List, ◌∷◌, ◌++◌, map}
 use Prim.Native.Nat.{ℕ, zero, suc, ◌+◌, ◌*◌, ◌<◌, ◌≤◌, ◌^◌}
@@ -80,7 +80,7 @@ own n s h =
 
 -- the fold at place p over packs 1, .., j
 abbrev folded : ℕ → List Float → ℕ → ℕ → Float
-folded n s j p = fold_at (λ i. some (at s (i * n + p))) (at s p) (range 1 j)
+folded n s j p = fold_at (λ i. Some (at s (i * n + p))) (at s p) (range 1 j)
 
 -- pack j + 1 added to what packs 0, .., j have made
 next : (n j : ℕ) (s : List Float) → added_from (suc j * n) n (consolidate_packs (suc j) n s) ≡ consolidate_packs (suc (suc j)) n s
@@ -88,7 +88,7 @@ next n j s =
     again (λ p. add binary64 (at (consolidate_packs (suc j) n s) p) (at (consolidate_packs (suc j) n s) (suc j * n + p))) (folded n s j) (folded n s (suc j)) n s (λ p h.
     (λ i. add binary64 (overwritten_at (folded n s j) n s p h i) (overwritten_past (folded n s j) n s (suc j * n + p) (omega arith) i))
     ∙ ap (λ (i : ℕ). add binary64 (folded n s j p) (at s (i * n + p))) (omega arith)
-    ∙ sym (fold_more (λ i. some (at s (i * n + p))) (at s p) 1 j))
+    ∙ sym (fold_more (λ i. Some (at s (i * n + p))) (at s p) 1 j))
 
 module _ (n packs : ℕ) (s : List Float) (k : packs * n ≤ length s) where
   pub packs_one : 0 < packs → s ≡ consolidate_packs 1 n s

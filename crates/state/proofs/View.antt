@@ -1,6 +1,7 @@
 -- A state's number, seen through its view.
-use mathlib.Core.Path.{◌≡◌, ◌∙◌, ap}
-use mathlib.Core.Option.{some}
+use mathlib.Core.Path.{◌≡◌, refl, sym, ◌∙◌, ap}
+use Rattle.std.specs.Prelude.{Option, Some, IsSome}
+use Rattle.std.proofs.lemmas.Option.{same_Some}
 use mathlib.Core.List.{List}
 use Prim.Native.Nat.{ℕ, ◌-◌, ◌*◌}
 use native.Mathlib.Omega.{arith}
@@ -10,15 +11,13 @@ use lib.Ieee.{Float, nan}
 use borrow.Author.Tests.{lt-ltb}
 use Rattle.definitions.specs.Lists.{at}
 use Rattle.definitions.specs.Run.{place}
-use Rattle.state_view.specs.declared.StateNumber.{StateNumber}
-use Rattle.state_view.specs.declared.StateNumber.TheVariants.{At, Outside}
-use Rattle.state_view.specs.View.{seen, reading_of}
+use Rattle.state_view.specs.View.{seen}
 use Rattle.state.specs.Readings.{InPack}
 use Rattle.state.proofs.Results.{place_within}
 
 -- number e of state s, in the part of the pack that starts at s
 module _ (p : List Float) (states size s e : ℕ) (i : InPack states size s e (length p)) where
-  in_part : seen (take (length p - s) (drop s p)) size states e ≡ some (at p (place states e s))
+  in_part : seen (take (length p - s) (drop s p)) size states e ≡ Some (at p (place states e s))
   unfolding seen
   in_part =
       let h = place_within states size s e (length p) i in
@@ -27,11 +26,11 @@ module _ (p : List Float) (states size s e : ℕ) (i : InPack states size s e (l
         lt-ltb e size i.number,
         lt-ltb (e * states) (length (drop s p)) (omega (arith, length-drop s p)),
       )
-      (ap some (get_or-drop s p (e * states) nan ∙ ap (at p) (omega arith)))
+      (ap Some (get_or-drop s p (e * states) nan ∙ ap (at p) (omega arith)))
 
-  module _ (r : StateNumber) (q : reading_of r ≡ seen (take (length p - s) (drop s p)) size states e) where
-    pub part_here : (x : Float) → r ≡ At x → x ≡ at p (place states e s)
-    part_here x t = cc (q ∙ in_part, ap reading_of t)
+  module _ (r : Option Float) (q : r ≡ seen (take (length p - s) (drop s p)) size states e) where
+    pub part_here : (x : Float) → r ≡ Some x → x ≡ at p (place states e s)
+    part_here x t = same_Some x (at p (place states e s)) (sym t ∙ q ∙ in_part)
 
-    pub part_never : (x : Float) → r ≡ Outside → x ≡ at p (place states e s)
-    part_never x t = cc (q ∙ in_part, ap reading_of t)
+    pub part_some : IsSome r
+    part_some = rw (q, in_part) refl

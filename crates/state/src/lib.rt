@@ -8,33 +8,25 @@ ghost use Rattle.definitions.specs.Lists.{at, overwritten};
 ghost use Rattle.definitions.specs.Reducer.{state_size as size_of_kind};
 ghost use Rattle.definitions.specs.Run.{place};
 ghost use Rattle.definitions.specs.State.{reset_pack, merge_packs, consolidate_packs, result_number, result_value};
-ghost use Rattle.definitions.specs.Rules.{refusal, met, if_accepted, reset_rules, merge_rules, consolidate_rules, result_rules};
-ghost use Rattle.state.specs.Readings.{state_kind_of, number_of, InPack};
+ghost use Rattle.definitions.specs.Rules.{refusal, if_accepted, reset_rules, merge_rules, consolidate_rules, result_rules};
+ghost use Rattle.refusals.specs.Numbers.{number_of};
+ghost use Rattle.state.specs.Readings.{state_kind_of, InPack};
 
-use state_view::StateNumber;
+use refusals::Refusal;
+use state_refusals::PackShape;
 
 // A mean, or a histogram by its count of value bins.
 pub type StateKind = state_refusals::StateKind;
 
-// Done, or the number of the refusal.
-#[derive(Clone, Copy)]
-pub enum Outcome {
-    Done,
-    Refused(u32),
-}
-
 // ---- numbers of a state
 
 // Number e of state s: its view starts at the state's first number, and its stride is the number of states.
-fn state_number(pack: &[f64], n_states: usize, state_size: usize, s: usize, e: usize) -> f64
-    requires { InPack n_states state_size s e (length pack.now) }
-    ensures { result ≡ at pack.now (place n_states e s) }
+fn state_number(pack: &[f64], shape: PackShape, s: usize, e: usize) -> f64
+    requires { InPack shape.n_states shape.state_size s e (length pack.now) }
+    ensures { result ≡ at pack.now (place shape.n_states e s) }
 {
-    match state_view::read_number(&pack[s..], state_size, n_states, e) {
-        StateNumber::At(x) => x,
-        // Not reached: the pack has the number.
-        StateNumber::Outside => 0.0 / 0.0,
-    }
+    // The pack has the number, so the view finds one.
+    state_view::read_number(&pack[s..], shape.state_size, shape.n_states, e).unwrap()
 }
 
 // ---- the operations
@@ -44,10 +36,8 @@ fn zero_first(pack: &mut [f64], n: usize)
     requires { n ≤ length pack.old }
     ensures { pack.new ≡ reset_pack n pack.old }
 {
-    let mut i = 0;
-    while i < n {
+    for i in 0..n {
         pack[i] = 0.0;
-        i += 1;
     }
 }
 
@@ -56,10 +46,8 @@ fn add_first(pack: &mut [f64], other: &[f64], n: usize)
     requires { (n ≤ length pack.old) × (n ≤ length other.now) }
     ensures { pack.new ≡ merge_packs n pack.old other.now }
 {
-    let mut i = 0;
-    while i < n {
+    for i in 0..n {
         pack[i] = pack[i] + other[i];
-        i += 1;
     }
 }
 
@@ -68,10 +56,8 @@ fn add_from(packs: &mut [f64], from: usize, n: usize)
     requires { (n ≤ from) × (from + n ≤ length packs.old) }
     ensures { packs.new ≡ overwritten n (λ p. add binary64 (at packs.old p) (at packs.old (from + p))) packs.old }
 {
-    let mut i = 0;
-    while i < n {
+    for i in 0..n {
         packs[i] = packs[i] + packs[from + i];
-        i += 1;
     }
 }
 
@@ -80,31 +66,22 @@ fn add_packs(packs: &mut [f64], n_packs: usize, n: usize)
     requires { (0 < n_packs) × (n_packs * n ≤ length packs.old) }
     ensures { packs.new ≡ consolidate_packs n_packs n packs.old }
 {
-    let mut i = 1;
-    while i < n_packs {
+    for i in 1..n_packs {
         add_from(packs, i * n, n);
-        i += 1;
     }
 }
 
 // Number e of the result of state s.
-fn result_number(
-    kind: StateKind,
-    pack: &[f64],
-    n_states: usize,
-    state_size: usize,
-    s: usize,
-    e: usize,
-) -> f64
-    requires state_size_value { state_size ≡ size_of_kind (state_kind_of kind) }
-    requires in_pack { InPack n_states state_size s e (length pack.now) }
-    ensures { result ≡ result_number (state_kind_of kind) n_states s pack.now e }
+fn result_number(kind: StateKind, shape: PackShape, s: usize, pack: &[f64], e: usize) -> f64
+    requires own_size { shape.state_size ≡ size_of_kind (state_kind_of kind) }
+    requires in_pack { InPack shape.n_states shape.state_size s e (length pack.now) }
+    ensures { result ≡ result_number (state_kind_of kind) shape.n_states s pack.now e }
 {
-    let number = state_number(pack, n_states, state_size, s, e);
+    let number = state_number(pack, shape, s, e);
     match kind {
         StateKind::Mean => {
             if e == 0 {
-                return number / state_number(pack, n_states, state_size, s, 1);
+                return number / state_number(pack, shape, s, 1);
             }
             number
         }
@@ -113,74 +90,50 @@ fn result_number(
 }
 
 // The result of state s, into the first numbers of value.
-fn write_result(
-    kind: StateKind,
-    pack: &[f64],
-    n_states: usize,
-    state_size: usize,
-    s: usize,
-    value: &mut [f64],
-)
-    requires state_size_value { state_size ≡ size_of_kind (state_kind_of kind) }
-    requires s_lt_n_states { (s < n_states) × (n_states * state_size ≤ length pack.now) × (n_states * state_size ≤ 4096) × (state_size ≤ length value.old) }
-    ensures { value.new ≡ result_value (state_kind_of kind) n_states s pack.now value.old }
+fn write_result(kind: StateKind, shape: PackShape, s: usize, pack: &[f64], value: &mut [f64])
+    requires own_size { shape.state_size ≡ size_of_kind (state_kind_of kind) }
+    requires state { s < shape.n_states }
+    requires pack_bound { (shape.n_states * shape.state_size ≤ length pack.now) × (shape.n_states * shape.state_size ≤ 4096) }
+    requires value_room { shape.state_size ≤ length value.old }
+    ensures { value.new ≡ result_value (state_kind_of kind) shape.n_states s pack.now value.old }
 {
-    let mut e = 0;
-    while e < state_size {
-        value[e] = result_number(kind, pack, n_states, state_size, s, e);
-        e += 1;
+    for e in 0..shape.state_size {
+        value[e] = result_number(kind, shape, s, pack, e);
     }
 }
 
 // Every number of the pack is 0.
 pub fn reset_full_statepack(
     kind: StateKind,
-    n_states: usize,
-    state_size: usize,
+    shape: PackShape,
     pack: &mut [f64],
-) -> Outcome
-    ensures number { number_of result ≡ met (refusal (reset_rules (state_kind_of kind) n_states state_size (length pack.old))) }
-    ensures pack_after { pack.new ≡ if_accepted (reset_rules (state_kind_of kind) n_states state_size (length pack.old))
-        (reset_pack (n_states * state_size) pack.old) pack.old }
+) -> Result<(), Refusal>
+    ensures number { number_of result ≡ refusal (reset_rules (state_kind_of kind) shape.n_states shape.state_size (length pack.old)) }
+    ensures pack_after { pack.new ≡ if_accepted (reset_rules (state_kind_of kind) shape.n_states shape.state_size (length pack.old))
+        (reset_pack (shape.n_states * shape.state_size) pack.old) pack.old }
 {
-    let number = state_refusals::reset_refusal(kind, n_states, state_size, pack.len());
-    if number != 0 {
-        return Outcome::Refused(number);
-    }
-    zero_first(pack, n_states * state_size);
-    Outcome::Done
+    state_refusals::reset_refusal(kind, shape, pack.len())?;
+    zero_first(pack, shape.n_states * shape.state_size);
+    Ok(())
 }
 
 // The second pack is added to the first.
 pub fn merge_full_statepacks(
     kind: StateKind,
-    n_states: usize,
-    state_size: usize,
-    other_states: usize,
-    other_size: usize,
+    shape: PackShape,
+    other_shape: PackShape,
     pack: &mut [f64],
     other: &[f64],
-) -> Outcome
-    ensures number { number_of result ≡ met (refusal (merge_rules (state_kind_of kind) n_states state_size other_states other_size
-        (length pack.old) (length other.now))) }
-    ensures pack_after { pack.new ≡ if_accepted (merge_rules (state_kind_of kind) n_states state_size other_states other_size
-        (length pack.old) (length other.now))
-        (merge_packs (n_states * state_size) pack.old other.now) pack.old }
+) -> Result<(), Refusal>
+    ensures number { number_of result ≡ refusal (merge_rules (state_kind_of kind) shape.n_states shape.state_size
+        other_shape.n_states other_shape.state_size (length pack.old) (length other.now)) }
+    ensures pack_after { pack.new ≡ if_accepted (merge_rules (state_kind_of kind) shape.n_states shape.state_size
+        other_shape.n_states other_shape.state_size (length pack.old) (length other.now))
+        (merge_packs (shape.n_states * shape.state_size) pack.old other.now) pack.old }
 {
-    let number = state_refusals::merge_refusal(
-        kind,
-        n_states,
-        state_size,
-        other_states,
-        other_size,
-        pack.len(),
-        other.len(),
-    );
-    if number != 0 {
-        return Outcome::Refused(number);
-    }
-    add_first(pack, other, n_states * state_size);
-    Outcome::Done
+    state_refusals::merge_refusal(kind, shape, other_shape, pack.len(), other.len())?;
+    add_first(pack, other, shape.n_states * shape.state_size);
+    Ok(())
 }
 
 // Packs of one shape end to end: packs 1, 2, .. are added in turn to pack 0.
@@ -188,55 +141,37 @@ pub fn merge_full_statepacks(
 pub fn serial_consolidate_scratch_statepacks(
     kind: StateKind,
     n_packs: usize,
-    n_states: usize,
-    state_size: usize,
+    shape: PackShape,
     packs: &mut [f64],
-) -> Outcome
-    ensures number { number_of result ≡ met (refusal (consolidate_rules (state_kind_of kind) n_packs n_states state_size (length packs.old))) }
-    ensures packs_after { packs.new ≡ if_accepted (consolidate_rules (state_kind_of kind) n_packs n_states state_size (length packs.old))
-        (consolidate_packs n_packs (n_states * state_size) packs.old) packs.old }
+) -> Result<(), Refusal>
+    ensures number { number_of result ≡ refusal (consolidate_rules (state_kind_of kind) n_packs shape.n_states shape.state_size
+        (length packs.old)) }
+    ensures packs_after { packs.new ≡ if_accepted (consolidate_rules (state_kind_of kind) n_packs shape.n_states shape.state_size
+        (length packs.old))
+        (consolidate_packs n_packs (shape.n_states * shape.state_size) packs.old) packs.old }
 {
-    let number = state_refusals::consolidate_refusal(
-        kind,
-        n_packs,
-        n_states,
-        state_size,
-        packs.len(),
-    );
-    if number != 0 {
-        return Outcome::Refused(number);
+    state_refusals::consolidate_refusal(kind, n_packs, shape, packs.len())?;
+    if n_packs > 1 {
+        add_packs(packs, n_packs, shape.n_states * shape.state_size);
     }
-    if n_packs <= 1 {
-        return Outcome::Done;
-    }
-    add_packs(packs, n_packs, n_states * state_size);
-    Outcome::Done
+    Ok(())
 }
 
 // The result of state `index`, into the first numbers of value.
 pub fn value_from_accum_state(
     kind: StateKind,
-    n_states: usize,
-    state_size: usize,
+    shape: PackShape,
     index: usize,
     pack: &[f64],
     value: &mut [f64],
-) -> Outcome
-    ensures number { number_of result ≡ met (refusal (result_rules (state_kind_of kind) n_states state_size index (length pack.now) (length value.old))) }
-    ensures value_after { value.new ≡ if_accepted (result_rules (state_kind_of kind) n_states state_size index (length pack.now) (length value.old))
-        (result_value (state_kind_of kind) n_states index pack.now value.old) value.old }
+) -> Result<(), Refusal>
+    ensures number { number_of result ≡ refusal (result_rules (state_kind_of kind) shape.n_states shape.state_size index
+        (length pack.now) (length value.old)) }
+    ensures value_after { value.new ≡ if_accepted (result_rules (state_kind_of kind) shape.n_states shape.state_size index
+        (length pack.now) (length value.old))
+        (result_value (state_kind_of kind) shape.n_states index pack.now value.old) value.old }
 {
-    let number = state_refusals::result_refusal(
-        kind,
-        n_states,
-        state_size,
-        index,
-        pack.len(),
-        value.len(),
-    );
-    if number != 0 {
-        return Outcome::Refused(number);
-    }
-    write_result(kind, pack, n_states, state_size, index, value);
-    Outcome::Done
+    state_refusals::result_refusal(kind, shape, index, pack.len(), value.len())?;
+    write_result(kind, shape, index, pack, value);
+    Ok(())
 }

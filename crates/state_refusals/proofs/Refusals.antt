@@ -6,6 +6,12 @@ use Prim.Native.Nat.{ℕ, ◌*◌, ◌/◌, ◌<◌, ◌≤◌}
 use native.Mathlib.Nat.{div-lt_iff_lt-mul, mul-zero, zero-mul, mul_comm}
 use native.Mathlib.Omega.{arith}
 use lib.Dec.{ltb, eqb}
+use Rattle.std.specs.Prelude.{IsErrAnd}
+use Rattle.std.specs.declared.result.Result.{Result}
+use Rattle.std.specs.declared.result.Result.TheVariants.{Ok, Err}
+use Rattle.refusals.specs.declared.Refusal.{Refusal}
+use Rattle.refusals.specs.Numbers.{refusal_number, number_of}
+use Rattle.refusals.proofs.Answers.{number_nonzero, number_carried}
 use borrow.Author.Tests.{lt-ltb, le-ltb, eq-eqb, ne_eqb, ltb-true, ltb-false}
 use Rattle.definitions.specs.Reducer.{StateKind, mean, histogram, state_size}
 use Rattle.definitions.specs.Rules.{rule, refusal, over_state, over_pack, no_bins, bad_shape, merge_rules, result_rules}
@@ -134,22 +140,23 @@ short_pack states size n m r q t = rw (← q, t)
 pub short_value : (states size n m : ℕ) (r : Bool) → r ≡ ltb n (states * size) → r ≡ false → ltb m size ≡ (ltb n (states * size) || ltb m size)
 short_value states size n m r q t = rw (← q, t)
 
-module _ (K : StateKind) (states size i n m : ℕ) (u : Bool) (e : u ≡ (ltb n (states * size) || ltb m size)) (x : ℕ) (h : x ≡ shape_refusal K states size u) where
+-- a is what `pack_refusal` answers
+module _ (K : StateKind) (states size i n m : ℕ) (u : Bool) (e : u ≡ (ltb n (states * size) || ltb m size)) (a : Result (Unit {0}) Refusal) (h : number_of a ≡ shape_refusal K states size u) where
   -- rule 25 after the pack's three
-  in_two : refusal (result_rules K states size i n m) ≡ or_else x (refusal (rule 25 (not (ltb i states)) ∷ []))
+  in_two : refusal (result_rules K states size i n m) ≡ or_else (number_of a) (refusal (rule 25 (not (ltb i states)) ∷ []))
   in_two =
       rw (h, e, or_assoc (bad_shape K states size) (ltb n (states * size)) (ltb m size))
       (refusal_append (rule 7 (over_state K || over_pack states size) ∷ rule 8 (no_bins K) ∷ rule 24 (bad_shape K states size || (ltb n (states * size) || ltb m size)) ∷ [])
       (rule 25 (not (ltb i states)) ∷ []) tt)
 
-  pub result_pack : (x ≡ 0 → ⊥) → x ≡ refusal (result_rules K states size i n m)
-  result_pack z = sym (in_two ∙ (rw (ne_eqb x 0 z)))
+  pub result_pack : (r : Refusal) → a ≡ Err r → (s : Result (Unit {0}) Refusal) → IsErrAnd s (λ t. t ≡ r) → number_of s ≡ refusal (result_rules K states size i n m)
+  result_pack r p s c = number_carried s r c ∙ sym (in_two ∙ (rw (p, ne_eqb (refusal_number r) 0 (number_nonzero r))))
 
-  module _ (z : x ≡ 0) where
+  module _ (v : Unit {0}) (p : a ≡ Ok v) where
     pub result_25 : states ≤ i → 25 ≡ refusal (result_rules K states size i n m)
-    result_25 k = sym (in_two ∙ (rw (eq-eqb x 0 z, le-ltb i states k)))
+    result_25 k = sym (in_two ∙ (rw (p, le-ltb i states k)))
 
     pub result_0 : i < states → 0 ≡ refusal (result_rules K states size i n m)
-    result_0 k = sym (in_two ∙ (rw (eq-eqb x 0 z, lt-ltb i states k)))
+    result_0 k = sym (in_two ∙ (rw (p, lt-ltb i states k)))
 
 pub ruleset results = (result_pack, result_25, result_0)

@@ -2,7 +2,7 @@
 #![tactic(auto)]
 
 ghost use Rattle.std.specs.Prelude.{◌≡◌};
-ghost use Rattle.state_view.specs.View.{reading_of, seen};
+ghost use Rattle.state_view.specs.View.{seen};
 
 // Number e of the state is e strides past the slice's first number.
 #[derive(Clone, Copy)]
@@ -12,28 +12,21 @@ pub struct AccumStateView<'a> {
     pub stride: usize,
 }
 
-// What a reading finds: a number, or that the state or the slice has none there.
-#[derive(Clone, Copy)]
-pub enum StateNumber {
-    At(f64),
-    Outside,
-}
-
-// The work of a view: the place is judged by division, so any numbers may be passed.
+// Number e of the state whose first number is the slice's first; none where the state or the slice has none. The place is judged by division, so any numbers may be passed.
 #[tactic(auto, unfolding(crate::specs::View::seen))]
-pub fn strided_number(data: &[f64], len: usize, stride: usize, e: usize) -> StateNumber
-    ensures { reading_of result ≡ seen «data».now len stride e }
+pub fn strided_number(data: &[f64], len: usize, stride: usize, e: usize) -> Option<f64>
+    ensures { result ≡ seen «data».now len stride e }
 {
     if len <= e {
-        return StateNumber::Outside;
+        return None;
     }
-    if data.len() == 0 {
-        return StateNumber::Outside;
+    if data.is_empty() {
+        return None;
     }
     if state_refusals::product_over(e, stride, data.len() - 1) {
-        return StateNumber::Outside;
+        return None;
     }
-    StateNumber::At(data[e * stride])
+    Some(data[e * stride])
 }
 
 // A view of the state whose first number is the slice's first.
@@ -44,15 +37,15 @@ pub fn view_of<'a>(data: &'a [f64], len: usize, stride: usize) -> AccumStateView
 }
 
 // Number e of the state that the view shows.
-pub fn number_at<'a>(view: AccumStateView<'a>, e: usize) -> StateNumber
-    ensures { reading_of result ≡ seen view.entry.«data».now view.entry.len view.entry.stride e }
+pub fn number_at<'a>(view: AccumStateView<'a>, e: usize) -> Option<f64>
+    ensures { result ≡ seen view.entry.«data».now view.entry.len view.entry.stride e }
 {
     strided_number(view.data, view.len, view.stride, e)
 }
 
 // Number e of a state, by way of its view. Its contract says nothing of a view, so whoever calls it needs no proof by hand.
-pub fn read_number(part: &[f64], len: usize, stride: usize, e: usize) -> StateNumber
-    ensures { reading_of result ≡ seen part.now len stride e }
+pub fn read_number(part: &[f64], len: usize, stride: usize, e: usize) -> Option<f64>
+    ensures { result ≡ seen part.now len stride e }
 {
     number_at(view_of(part, len, stride), e)
 }

@@ -1,7 +1,7 @@
 -- Demand 3 at numbers: K10 by itself; a list of a point run, a grid with NaN padding, a refused run and a lone point, of three shapes over the same places,
 -- from a start with -0.0; and cross runs. They show that the claim's conditions can be met. Assumes nothing.
 use mathlib.Core.Path.{◌≡◌, refl, sym, ◌∙◌}
-use mathlib.Core.Option.{none}
+use Rattle.std.specs.Prelude.{None}
 use mathlib.Core.List.Permᴰ
 use mathlib.Core.List.{List, [], ◌∷◌, map}
 use mathlib.Core.Bool.{true, false}
@@ -29,7 +29,7 @@ use Rattle.survey.proofs.Demand3.{demand3}
 probes : UnstructuredPoints
 probes = record {
   count = 2;
-  stated = none;
+  stated = None;
   positions = int (pos 0) ∷ int (pos 3) ∷ int (pos 0) ∷ int (pos 4) ∷ int (pos 0) ∷ int (pos 0) ∷ [];
   values = int (pos 1) ∷ int (pos 1) ∷ int (pos 2) ∷ int (pos 1) ∷ int (pos 3) ∷ int (pos 1) ∷ [];
   weights = int (pos 1) ∷ int (pos 2) ∷ [];
@@ -213,7 +213,7 @@ turned = list_demand.order (grid ∷ single ∷ k10 ∷ alone ∷ []) (Permᴰ.t
 probes_turned : UnstructuredPoints
 probes_turned = record {
   count = 2;
-  stated = none;
+  stated = None;
   positions = int (pos 3) ∷ int (pos 0) ∷ int (pos 4) ∷ int (pos 0) ∷ int (pos 0) ∷ int (pos 0) ∷ [];
   values = int (pos 1) ∷ int (pos 1) ∷ int (pos 1) ∷ int (pos 2) ∷ int (pos 1) ∷ int (pos 3) ∷ [];
   weights = int (pos 2) ∷ int (pos 1) ∷ [];

@@ -1,6 +1,6 @@
 -- A pair of whole readings: what the run adds in floats is what the book adds in whole numbers. Assumes nothing.
 use mathlib.Core.Path.{◌≡◌, refl, sym, ap, ◌∙◌}
-use mathlib.Core.Option.{Option, none, some}
+use Rattle.std.specs.Prelude.{Option, None, Some}
 use mathlib.Core.List.{List}
 use mathlib.Core.Bool.{Bool, true, false, not, cond, ◌||◌}
 use Prim.Native.Nat.{ℕ, zero, suc, ◌-◌, ◌*◌, ◌^◌, ◌≤◌, zero-le}
@@ -66,13 +66,13 @@ module _ {x y : Float} {z : ℤ} (p : Whole x z) (q : Whole y z) where
   last_same es h zero l = refl
   last_same es h (suc k) l =
       let e : not_after (at es k) x ≡ not_after (at es k) y = blind (not_after (at es k)) (edge_blind (at es k) (at_all (λ e. T (fits binary64 e) × T (not (eq e (zero_f false)))) es h k l)) p q in
-      λ i. cond (e i) (some k) (last_same es h k (omega arith) i)
+      λ i. cond (e i) (Some k) (last_same es h k (omega arith) i)
 
   find_same : (e : Edges) → NoZero e → find e x ≡ find e y
   unfolding find regular_index irregular_index
-  find_same (regular min max n) h = λ i. cond (lt_same_l p q min i || le_same_r p q max i) none (some (cut_same 64 min (bin_size min max n) p q i))
+  find_same (regular min max n) h = λ i. cond (lt_same_l p q min i || le_same_r p q max i) None (Some (cut_same 64 min (bin_size min max n) p q i))
   find_same (irregular es) h =
-      λ i. cond ((whole_not_nan p ∙ sym (whole_not_nan q)) i || lt_same_l p q (at es 0) i || le_same_r p q (at es (length es - 1)) i) none (last_same es h (length es) (omega arith) i)
+      λ i. cond ((whole_not_nan p ∙ sym (whole_not_nan q)) i || lt_same_l p q (at es 0) i || le_same_r p q (at es (length es - 1)) i) None (last_same es h (length es) (omega arith) i)
 
   bin_same : (e : Edges) → NoZero e → bin_of e x ≡ bin_of e y
   unfolding bin_of
@@ -147,16 +147,16 @@ module _ (k : Kind) (op : PairOperation) (v w : ℕ) (hv : 1 ≤ v) (hw : 1 ≤ 
 
 -- ---- what a pair adds to one number of its state
 pub in_bin_gives : (b : Option ℕ) (s : ℕ) (o : Option Float) (z : ℤ) → Gives o z → Gives (in_bin b s o) (in_bin_z b s z)
-in_bin_gives none s o z g = refl
-in_bin_gives (some i) s o z g = go (eqb i s)
+in_bin_gives None s o z g = refl
+in_bin_gives (Some i) s o z g = go (eqb i s)
   where
-    go : (t : Bool) → Gives (cond t o none) (cond t z (pos 0))
+    go : (t : Bool) → Gives (cond t o None) (cond t z (pos 0))
     go true = g
     go false = refl
 
 pub in_bin_le : (b : Option ℕ) (s : ℕ) (z : ℤ) → nat_abs (in_bin_z b s z) ≤ nat_abs z
-in_bin_le none s z = zero-le
-in_bin_le (some i) s z = go (eqb i s)
+in_bin_le None s z = zero-le
+in_bin_le (Some i) s z = go (eqb i s)
   where
     go : (t : Bool) → nat_abs (cond t z (pos 0)) ≤ nat_abs z
     go true = le_refl (nat_abs z)
@@ -205,12 +205,12 @@ module _ (most : ℕ) (few : most ≤ limit) (op : PairOperation) (a b : Reading
       let t = total_whole (component_sum_histogram h) s in
       let z = component_sum_z op (reading_z a) (reading_z b) in
       rw (← bin_same t (of_int_plain z (le_trans s.total few)).whole h n)
-      (in_bin_gives (bin_of h (component_sum (datum_of op a b))) e (some (datum_of op a b).weight) (int_of a.w *ℤ int_of b.w) (weight_whole (component_sum_histogram h) s))
+      (in_bin_gives (bin_of h (component_sum (datum_of op a b))) e (Some (datum_of op a b).weight) (int_of a.w *ℤ int_of b.w) (weight_whole (component_sum_histogram h) s))
 
 -- a pair yields a datum for its bin, or nothing
 pub pair_term_law : (k : Kind) (s e : ℕ) (o : Option ℕ) (d : Datum) → pair_term k s e (pair_in o d) ≡ in_bin o s (datum_term k e d)
-pair_term_law k s e none d = refl
-pair_term_law k s e (some b) d = refl
+pair_term_law k s e None d = refl
+pair_term_law k s e (Some b) d = refl
 
 -- ---- squared distances are exact, and never -0.0
 pub record Square (x : Float) (z : ℤ) : Type 0 where

@@ -1,6 +1,6 @@
 -- One accepted whole-number survey: each total of its scratch pack is what the book adds there, as `of_int`, and that is at most the run's cost in size. Assumes nothing.
 use mathlib.Core.Path.{◌≡◌, refl, sym, ap, ◌∙◌}
-use mathlib.Core.Option.{Option, none, some}
+use Rattle.std.specs.Prelude.{Option, None, Some}
 use mathlib.Core.List.{List, [], ◌∷◌, map}
 use mathlib.Core.Bool.{Bool, true, false, cond}
 use Prim.Native.Nat.{ℕ, ◌*◌, ◌≤◌, ◌<◌, zero-le}
@@ -61,8 +61,8 @@ pair_sizes : (k : Kind) (op : PairOperation) (c : Cloud) (a b : PointZ) → With
 pair_sizes k op c a b p q = sizes k op (big_v c) (big_w c) (omega arith) (omega arith) a b p q
 
 in_bin_z_sum : {A : Type 0} (o : Option ℕ) (s : ℕ) (f : A → ℤ) (l : List A) → in_bin_z o s (sum_by f l) ≡ sum_by (λ x. in_bin_z o s (f x)) l
-in_bin_z_sum none s f l = sym (sum_by_zero l)
-in_bin_z_sum (some i) s f l = go (eqb i s)
+in_bin_z_sum None s f l = sym (sum_by_zero l)
+in_bin_z_sum (Some i) s f l = go (eqb i s)
   where
     go : (t : Bool) → cond t (sum_by f l) (pos 0) ≡ sum_by (λ x. cond t (f x) (pos 0)) l
     go true = refl
@@ -155,7 +155,7 @@ module _ (r : Run) (p : ℕ) (c : Cloud) where
             let e : in_bin_z bin s z ≡ sum_by (on pair_q) l =
             in_bin_z_sum bin s (on read) l ∙ sum_by_all (λ q. in_bin_z bin s (on read q)) (on pair_q) l
             (all_imp (Fit d) (λ q. in_bin_z bin s (on read q) ≡ on pair_q q) (λ q o. ap (λ (x : Float). in_bin_z (bin_of r.edges x) s (on read q)) o.2) l fit) in
-            rw (← e, total) (in_bin_gives bin s (some (of_int binary64 z)) z (of_int_plain z (le_trans (sum_by_size (on read) l) k)).whole)
+            rw (← e, total) (in_bin_gives bin s (Some (of_int binary64 z)) z (of_int_plain z (le_trans (sum_by_size (on read) l) k)).whole)
 
         module _ (take : Idx3DOffset → Bool) (ps : List (Cell × Cell)) (e : cloud_pairs c ≡ map (both (cell_point w a) (cell_point w b)) ps) (covers : Covers a b take ps) where
           abbrev part : Idx3DOffset → ℤ
@@ -182,17 +182,17 @@ module _ (r : Run) (p : ℕ) (c : Cloud) where
                   (nat_sum_le (λ q. nat_abs (on pair_q q)) (λ q. nat_abs (on read q)) (λ q. binned_le (cell_point w a q.0) (cell_point w b q.1)) (cell_pairs a b d))
               go false = zero-le
 
-          part_gives : (ds : List Idx3DOffset) → nat_sum weigh ds ≤ limit → All (λ d. Gives (cond (take d) (offset_at r p w a b d) none) (part d)) ds
+          part_gives : (ds : List Idx3DOffset) → nat_sum weigh ds ≤ limit → All (λ d. Gives (cond (take d) (offset_at r p w a b d) None) (part d)) ds
           part_gives [] k = tt
           part_gives (d ∷ ds) k = (go (take d) (omega arith), part_gives ds (omega arith))
             where
-              go : (t : Bool) → cond t (size_by (on read) (cell_pairs a b d)) 0 ≤ limit → Gives (cond t (offset_at r p w a b d) none) (when_z t (sum_by (on pair_q) (cell_pairs a b d)))
+              go : (t : Bool) → cond t (size_by (on read) (cell_pairs a b d)) 0 ≤ limit → Gives (cond t (offset_at r p w a b d) None) (when_z t (sum_by (on pair_q) (cell_pairs a b d)))
               go true k = offset_gives d k
               go false k = refl
 
-          blocks_exact : fold_at (λ d. cond (take d) (offset_at r p w a b d) none) (zero_f false) (offsets_of a b) ≡ of_int binary64 (cloud_sum (pair_z r p) c)
+          blocks_exact : fold_at (λ d. cond (take d) (offset_at r p w a b d) None) (zero_f false) (offsets_of a b) ≡ of_int binary64 (cloud_sum (pair_z r p) c)
           blocks_exact =
-              fold_zero (λ d. cond (take d) (offset_at r p w a b d) none) part (offsets_of a b) (part_gives (offsets_of a b) weigh_le)
+              fold_zero (λ d. cond (take d) (offset_at r p w a b d) None) part (offsets_of a b) (part_gives (offsets_of a b) weigh_le)
               (le_trans (nat_sum_le (λ d. nat_abs (part d)) weigh part_le (offsets_of a b)) weigh_le)
               ∙ ap (of_int binary64) (covers pair_q ∙ sym (sum_by_map (both (cell_point w a) (cell_point w b)) (on (pair_z r p)) ps) ∙ ap (sum_by (on (pair_z r p))) (sym e) ∙ cloud_sum_law (pair_z r p) c)
 

@@ -1,6 +1,6 @@
 -- Demand 3 as one claim about a whole list of runs into one slice, and what may stand for a run in the list. Definitions only.
 use Rattle.std.specs.Prelude.{◌≡◌, ℕ, ◌≤◌, T, length, Float}
-use Rattle.std.proofs.Math.Option.{some}
+use Rattle.std.specs.Prelude.{Some}
 use mathlib.Core.List.{List, [], ◌∷◌, ◌++◌, map, Permᴰ}
 use Rattle.std.specs.Float.{binary64}
 use Rattle.std.specs.Float.Ieee.{of_int}
@@ -57,7 +57,7 @@ components f g h l = map f l ++ (map g l ++ map h l)
 abbrev pub listing : CellWidth → CartesianBlock → UnstructuredPoints
 listing w a = record {
   count = length (cells_of a);
-  stated = some (length (cells_of a));
+  stated = Some (length (cells_of a));
   positions =
       components (λ c. of_int binary64 (coordinate a.gz c.z w.wz)) (λ c. of_int binary64 (coordinate a.gy c.y w.wy)) (λ c. of_int binary64 (coordinate a.gx c.x w.wx))
       (cells_of a);

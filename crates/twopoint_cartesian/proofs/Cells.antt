@@ -17,7 +17,10 @@ use Rattle.idx_3d_offset.specs.declared.Axes.{Axes}
 use Rattle.idx_3d_offset.specs.declared.Idx3DOffset.{Idx3DOffset}
 use Rattle.idx_3d_offset.specs.Offsets.{idx_of, Within, Reach, Walkable}
 use Rattle.parallel_serial.specs.declared.Setup.{Setup}
-use Rattle.twopoint_cartesian.specs.Cells.{BlockFits, Near, AllNear, Ready, Placed, fields_in, first_a, first_b, overlap_of, cells_added, row_added, plane_added, block_added, pair_step, offset_cells}
+use Rattle.spatial.specs.declared.Block.{Block}
+use Rattle.spatial.specs.Readings.{block_of}
+use Rattle.twopoint_cartesian.specs.declared.Planes.{Planes}
+use Rattle.twopoint_cartesian.specs.Cells.{Columns, BlockFits, Near, AllNear, Ready, Placed, Reached, planes_of, fields_in, first_a, first_b, overlap_of, cells_added, row_added, plane_added, block_added, pair_step, offset_cells}
 use Rattle.twopoint_cartesian.proofs.Distance.{back}
 
 -- ---- a cell's place
@@ -132,13 +135,28 @@ module _ (a b : CartesianBlock) (ha : Ready a) (hb : Ready b) (d : blocks.Idx3DO
   fits_b =
       block_fits b hb (first_b d) (overlap_of a b d) (count_b a.nz b.nz d.dz r.z_axis) (count_b a.ny b.ny d.dy r.y_axis) (count_b a.nx b.nx d.dx r.x_axis) r.y_axis.second
 
-  -- by what the calls answered
-  module _ (n : Axes) (e : n ≡ overlap_of a b d) where
-    pub answers_a : (i : ℕ) → i ≡ cell_index a (first_a d) → BlockFits (fields_in a) i a.sy a.sz n.x n.y n.z
-    answers_a i f = rw (f, e) fits_a
+-- ---- the same by an offset of the machine's numbers
+module _ (a b : Block) (o : Idx3DOffset) (h : Reached a b o) where
+  pub near_offset : AllNear o.0 o.1 o.2
+  near_offset = reach_near (block_of a) (block_of b) h.first h.second (idx_of o) h.reach
 
-    pub answers_b : (j : ℕ) → j ≡ cell_index b (first_b d) → BlockFits (fields_in b) j b.sy b.sz n.x n.y n.z
-    answers_b j f = rw (f, e) fits_b
+  -- what the calls answered
+  pub planes_is : (i j : ℕ) (n : Axes) → i ≡ cell_index (block_of a) (first_a (idx_of o)) → j ≡ cell_index (block_of b) (first_b (idx_of o)) → n ≡ overlap_of (block_of a) (block_of b) (idx_of o)
+      → ◌≡◌ {A = Planes} (record { rows = record { i = i; j = j; sa = a.sy; sb = b.sy; n = n.x; m = n.y }; ta = a.sz; tb = b.sz; l = n.z }) (planes_of (block_of a) (block_of b) (idx_of o))
+  planes_is i j n ei ej en = λ t. record { rows = record { i = ei t; j = ej t; sa = a.sy; sb = b.sy; n = (en t).x; m = (en t).y }; ta = a.sz; tb = b.sz; l = (en t).z }
+
+  pub first_placed : Placed a.sz a.sy a.sx (first_a (idx_of o))
+  first_placed = placed_a (block_of a) (block_of b) h.first h.second (idx_of o) h.reach
+
+  pub second_placed : Placed b.sz b.sy b.sx (first_b (idx_of o))
+  second_placed = placed_b (block_of a) (block_of b) h.first h.second (idx_of o) h.reach
+
+  module _ (p : Planes) (e : p ≡ planes_of (block_of a) (block_of b) (idx_of o)) (f : Columns) where
+    pub first_fits : f ≡ fields_in (block_of a) → BlockFits f p.rows.i p.rows.sa p.ta p.rows.n p.rows.m p.l
+    first_fits q = rw (q, e) (fits_a (block_of a) (block_of b) h.first h.second (idx_of o) h.reach)
+
+    pub second_fits : f ≡ fields_in (block_of b) → BlockFits f p.rows.j p.rows.sb p.tb p.rows.n p.rows.m p.l
+    second_fits q = rw (q, e) (fits_b (block_of a) (block_of b) h.first h.second (idx_of o) h.reach)
 
 -- ---- the loops are a fold over the pairs
 fold_run : {A : Type 0} (upd : A → List Float → List Float) (l : List A) (s : List Float) → run_on upd l s ≡ fold_pack upd l s
@@ -164,7 +182,10 @@ offset_cells_law setup value_edges a b ea eb d s =
     ∙ fold_run (pair_step setup value_edges a b) (cell_pairs a b d) s
 
 -- z is what the state held before
-pub cells_done : (setup : Setup) (value_edges : List Float) (a b : CartesianBlock) → Ready a → Ready b → (d : blocks.Idx3DOffset) (s z q : List Float) (i j : ℕ) (n : Axes) → i ≡ cell_index a (first_a d) → j ≡ cell_index b (first_b d)
-    → n ≡ overlap_of a b d → s ≡ z → q ≡ block_added setup value_edges (fields_in a) (fields_in b) i j a.sy b.sy a.sz b.sz n.x n.y 0 n.z s → q ≡ offset_cells setup value_edges a b d z
-cells_done setup value_edges a b ha hb d s z q i j n ei ej en es e =
-    e ∙ (λ t. block_added setup value_edges (fields_in a) (fields_in b) (ei t) (ej t) a.sy b.sy a.sz b.sz (en t).x (en t).y 0 (en t).z (es t)) ∙ offset_cells_law setup value_edges a b ha.x_stride hb.x_stride d z
+pub cells_done : (setup : Setup) (value_edges : List Float) (a b : Block) (o : Idx3DOffset) → Reached a b o → (s z q : List Float) (p : Planes) (f g : Columns) → p ≡ planes_of (block_of a) (block_of b) (idx_of o)
+    → f ≡ fields_in (block_of a) → g ≡ fields_in (block_of b) → s ≡ z
+    → q ≡ block_added setup value_edges f g p.rows.i p.rows.j p.rows.sa p.rows.sb p.ta p.tb p.rows.n p.rows.m 0 p.l s → q ≡ offset_cells setup value_edges (block_of a) (block_of b) (idx_of o) z
+cells_done setup value_edges a b o h s z q p f g ep ef eg es e =
+    e
+    ∙ (λ t. block_added setup value_edges (ef t) (eg t) (ep t).rows.i (ep t).rows.j (ep t).rows.sa (ep t).rows.sb (ep t).ta (ep t).tb (ep t).rows.n (ep t).rows.m 0 (ep t).l (es t))
+    ∙ offset_cells_law setup value_edges (block_of a) (block_of b) h.first.x_stride h.second.x_stride (idx_of o) z

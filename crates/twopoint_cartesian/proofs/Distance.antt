@@ -1,7 +1,6 @@
 -- The index displacement as the machine forms it, and the squared distance of an offset. Assumes nothing.
 use mathlib.Core.Path.{◌≡◌, ap, ◌∙◌}
 use mathlib.Core.Bool.{false}
-use mathlib.Core.List.{[]}
 use Prim.Native.Nat.{◌^◌, ◌≤◌}
 use native.Mathlib.Omega.{arith}
 use lib.IntN.{ℤ, pos, negsuc, nat_abs, ◌+ℤ◌, ◌-ℤ◌}
@@ -79,7 +78,7 @@ module _ (width : CellWidth) (a b : Block) (o : Idx3DOffset) (no : AllNear o.0 o
       → z ≡ square (displaced (to_z w64 (of_z w64 o.0)) (to_z w64 (of_z w64 a.gz)) (to_z w64 (of_z w64 b.gz)) width.z)
       → y ≡ square (displaced (to_z w64 (of_z w64 o.1)) (to_z w64 (of_z w64 a.gy)) (to_z w64 (of_z w64 b.gy)) width.y)
       → x ≡ square (displaced (to_z w64 (of_z w64 o.2)) (to_z w64 (of_z w64 a.gx)) (to_z w64 (of_z w64 b.gx)) width.x)
-      → add binary64 (add binary64 (add binary64 (of_bits binary64 0) z) y) x ≡ distance_squared (width_of width) (block_of a [] [] [] []) (block_of b [] [] [] []) (idx_of o)
+      → add binary64 (add binary64 (add binary64 (of_bits binary64 0) z) y) x ≡ distance_squared (width_of width) (block_of a) (block_of b) (idx_of o)
   unfolding of_bits
   distance_is z y x ez ey ex =
       λ t. add binary64 (add binary64 (add binary64 (zero_f false) (same_displaced o.0 a.gz b.gz no.z_near na.z_near nb.z_near width.z z ez t)) (same_displaced o.1 a.gy b.gy no.y_near na.y_near nb.y_near width.y y ey t)) (same_displaced o.2 a.gx b.gx no.x_near na.x_near nb.x_near width.x x ex t)

@@ -4,7 +4,7 @@ pub mod Loops
 pub mod Means
 pub mod Cells
 pub mod Merge
-pub mod Rows
+pub mod Histograms
 pub mod Next
 pub mod Walk
 pub mod Placewise

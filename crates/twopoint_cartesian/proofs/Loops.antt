@@ -8,7 +8,7 @@ use native.Mathlib.Omega.{arith}
 use lib.Ieee.{Float}
 use Rattle.laws.proofs.Loops.{loop_left}
 use Rattle.parallel_serial.specs.declared.Setup.{Setup}
-use Rattle.twopoint_cartesian.specs.Cells.{Fields, row_added, plane_added, block_added}
+use Rattle.twopoint_cartesian.specs.Cells.{Columns, row_added, plane_added, block_added}
 
 loop_join : {S : Type 0} (body : ℕ → S → S) (k m l : ℕ) (s : S) → loop_left body k (m + l) s ≡ loop_left body (k + m) l (loop_left body k m s)
 loop_join body k zero l s = λ t. loop_left body (sym (add-zero k) t) (zero-add l t) s
@@ -44,7 +44,7 @@ module _ {S : Type 0} (body : ℕ → S → S) (n : ℕ) (z : S) where
 pub row_place : (i y r s : ℕ) → i + (y + r) * s ≡ i + y * s + r * s
 row_place i y r s = omega (arith, add-mul y r s)
 
-module _ (setup : Setup) (value_edges : List Float) (a b : Fields) where
+module _ (setup : Setup) (value_edges : List Float) (a b : Columns) where
   module _ (i j sa sb n k : ℕ) where
     pub plane_start : (s : List Float) → plane_added setup value_edges a b i j sa sb n 0 (k - 0) s ≡ plane_added setup value_edges a b i j sa sb n 0 k s
     plane_start s = ap (λ (m : ℕ). plane_added setup value_edges a b i j sa sb n 0 m s) (sub-zero k)

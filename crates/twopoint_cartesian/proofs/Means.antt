@@ -1,12 +1,12 @@
 -- A mean's cells in locals: the two numbers, summed apart, are the state that the cells leave. Assumes nothing.
-use mathlib.Core.Path.{◌≡◌, refl, sym, ap, subst, ◌∙◌}
-use mathlib.Core.Bool.{Bool, true, true≢false}
+use mathlib.Core.Path.{◌≡◌, refl, sym, ap, ◌∙◌}
+use mathlib.Core.Bool.{true, true≢false}
 use mathlib.Core.List.{List}
 use Prim.Native.Nat.{ℕ, zero, suc, ◌+◌, ◌-◌, ◌*◌, ◌<◌, ◌≤◌}
 use native.Mathlib.Nat.{sub-zero}
 use native.Mathlib.Omega.{arith}
 use lib.Ieee.{Float, binary64, add, mul}
-use mathlib.Core.Option.{some}
+use Rattle.std.specs.Prelude.{Some}
 use Rattle.definitions.specs.Blocks as blocks
 use Rattle.definitions.specs.Blocks.{CartesianBlock, cell_index, count, cell_pairs, distance_squared}
 use Rattle.definitions.specs.Reducer as definitions
@@ -21,10 +21,10 @@ use Rattle.reducer.specs.Readings.{the_datum}
 use Rattle.reducer.specs.Consume as consume
 use Rattle.reducer.specs.Consume.{built_bin, reducer_size, consumed}
 use Rattle.reducer.proofs.Placewise.{room}
-use Rattle.idx_3d_offset.specs.declared.Axes.{Axes}
+use Rattle.twopoint_cartesian.specs.declared.Planes.{Planes}
 use Rattle.parallel_serial.specs.declared.Setup.{Setup}
 use Rattle.twopoint_cartesian.specs.declared.Mean.{Mean}
-use Rattle.twopoint_cartesian.specs.Cells.{Fields, BlockFits, datum_in, cells_added, row_added, plane_added, block_added, scalar_of, is_mean, mean_added, no_mean, mean_state, cells_in_mean, row_in_mean, plane_in_mean, block_in_mean, fields_in, first_a, first_b, overlap_of, offset_mean, pair_step, offset_cells, fresh, Ready, state_merged, merged_in, offset_added, offsets_added}
+use Rattle.twopoint_cartesian.specs.Cells.{Columns, planes_of, datum_in, cells_added, row_added, plane_added, block_added, scalar_of, is_mean, mean_added, no_mean, mean_state, cells_in_mean, row_in_mean, plane_in_mean, block_in_mean, fields_in, first_a, first_b, offset_mean, pair_step, offset_cells, fresh, Ready, state_merged, merged_in, offset_added, offsets_added}
 use Rattle.twopoint_cartesian.proofs.Loops.{left_turn, left_done}
 use Rattle.twopoint_cartesian.proofs.Cells.{offset_cells_law}
 
@@ -37,7 +37,7 @@ module _ (k : Reducer) (d : definitions.Datum) (x : Float) (h : x ≡ component_
   scalar_histogram e t = rw t h
 
 -- ---- the loops, turn by turn
-module _ (setup : Setup) (a b : Fields) where
+module _ (setup : Setup) (a b : Columns) where
   pub cells_in_mean_law : (i j : ℕ) (m : Mean) (d : Datum) (v : Float) → the_datum d ≡ datum_in setup a b i j → v ≡ scalar_of setup.reducer (the_datum d)
       → ◌≡◌ {A = Mean} (record { total = add binary64 m.total (mul binary64 v d.weight); weight = add binary64 m.weight d.weight }) (cells_in_mean setup a b i j m)
   unfolding cells_in_mean
@@ -99,7 +99,7 @@ consumed_mean ComponentSumMean list d m e = rw (room 1 2 0 2 (omega arith) (omeg
 consumed_mean (ComponentSumHistogram edges) list d m e = absurd (true≢false (sym e))
 
 module _ (setup : Setup) (value_edges : List Float) (e : is_mean setup.reducer ≡ true) where
-  module _ (a b : Fields) where
+  module _ (a b : Columns) where
     mean_cells : (i j : ℕ) (m : Mean) → cells_added setup value_edges a b i j (mean_state m) ≡ mean_state (cells_in_mean setup a b i j m)
     unfolding cells_added cells_in_mean
     mean_cells i j m = consumed_mean setup.reducer value_edges (datum_in setup a b i j) m e
@@ -127,8 +127,8 @@ module _ (setup : Setup) (value_edges : List Float) (e : is_mean setup.reducer �
 
   -- m is what a call answered
   pub mean_merged : (a b : CartesianBlock) → Ready a → Ready b → (d : blocks.Idx3DOffset) (bin : ℕ) (m : Mean) (s q : List Float) → m ≡ offset_mean setup a b d → q ≡ state_merged setup.n_states bin (mean_state m) 0 2 s
-      → q ≡ merged_in (some bin) setup.n_states (offset_cells setup value_edges a b d (fresh 2)) s
-  mean_merged a b ha hb d bin m s q f h = h ∙ λ t. merged_in (some bin) setup.n_states ((ap mean_state f ∙ sym (cells_mean a b ha.x_stride hb.x_stride d)) t) s
+      → q ≡ merged_in (Some bin) setup.n_states (offset_cells setup value_edges a b d (fresh 2)) s
+  mean_merged a b ha hb d bin m s q f h = h ∙ λ t. merged_in (Some bin) setup.n_states ((ap mean_state f ∙ sym (cells_mean a b ha.x_stride hb.x_stride d)) t) s
 
 -- ---- a mean reads no value edges
 any_edges : (k : Reducer) → is_mean k ≡ true → (es fs : List Float) → consumed k es ≡ consumed k fs
@@ -160,15 +160,8 @@ mean_size ComponentSumMean m e = refl
 mean_size (ComponentSumHistogram edges) m e = absurd (true≢false (sym e))
 
 -- ---- one offset, by what the calls answered
-pub mean_done_cells : (setup : Setup) (a b : CartesianBlock) (d : blocks.Idx3DOffset) (i j : ℕ) (n : Axes) (q : Mean) → i ≡ cell_index a (first_a d) → j ≡ cell_index b (first_b d) → n ≡ overlap_of a b d
-    → q ≡ block_in_mean setup (fields_in a) (fields_in b) i j a.sy b.sy a.sz b.sz n.x n.y 0 n.z no_mean → q ≡ offset_mean setup a b d
+pub mean_done_cells : (setup : Setup) (a b : CartesianBlock) (d : blocks.Idx3DOffset) (p : Planes) (f g : Columns) (q : Mean) → p ≡ planes_of a b d → f ≡ fields_in a → g ≡ fields_in b
+    → q ≡ block_in_mean setup f g p.rows.i p.rows.j p.rows.sa p.rows.sb p.ta p.tb p.rows.n p.rows.m 0 p.l no_mean → q ≡ offset_mean setup a b d
 unfolding offset_mean
-mean_done_cells setup a b d i j n q ei ej en e = e ∙ λ t. block_in_mean setup (fields_in a) (fields_in b) (ei t) (ej t) a.sy b.sy a.sz b.sz (en t).x (en t).y 0 (en t).z no_mean
-
--- in auto the second block is the first
-module _ (auto : Bool) (a b : CartesianBlock) (u : auto ≡ true) (same : auto ≡ true → a ≡ b) (j s t n k l : ℕ) where
-  pub auto_fits : BlockFits (fields_in b) j s t n k l → BlockFits (fields_in a) j s t n k l
-  auto_fits h = subst (λ (c : CartesianBlock). BlockFits (fields_in c) j s t n k l) (sym (same u)) h
-
-  pub auto_mean : (setup : Setup) (i sa ta : ℕ) (q : Mean) → q ≡ block_in_mean setup (fields_in a) (fields_in a) i j sa s ta t n k 0 l no_mean → q ≡ block_in_mean setup (fields_in a) (fields_in b) i j sa s ta t n k 0 l no_mean
-  auto_mean setup i sa ta q e = e ∙ ap (λ (c : CartesianBlock). block_in_mean setup (fields_in a) (fields_in c) i j sa s ta t n k 0 l no_mean) (same u)
+mean_done_cells setup a b d p f g q ep ef eg e =
+    e ∙ λ t. block_in_mean setup (ef t) (eg t) (ep t).rows.i (ep t).rows.j (ep t).rows.sa (ep t).rows.sb (ep t).ta (ep t).tb (ep t).rows.n (ep t).rows.m 0 (ep t).l no_mean

@@ -1,49 +1,30 @@
--- A state of zeros, its merge into its bin, and one offset's part of a run. Assumes nothing.
+-- A state's merge into its bin, and one offset's part of a run. Assumes nothing.
 use mathlib.Core.Path.{◌≡◌, refl, ap, ◌∙◌}
-use mathlib.Core.Option.{Option, none, some, some-injective, none-ne-some}
+use Rattle.std.specs.Prelude.{Option, None, Some}
+use Rattle.std.proofs.lemmas.Option.{none-some, same_Some}
 use mathlib.Core.Bool.{Bool, true, false, cond}
-use mathlib.Core.List.{List, [], ◌∷◌, ◌++◌, map}
-use Prim.Native.Nat.{ℕ, zero, suc, ◌+◌, ◌-◌, ◌*◌, ◌<◌, ◌≤◌}
+use mathlib.Core.List.{List, [], ◌∷◌}
+use Prim.Native.Nat.{ℕ, ◌+◌, ◌-◌, ◌*◌, ◌<◌, ◌≤◌}
 use native.Mathlib.Nat.{sub-zero, suc-mul, mul_comm, mul-le-mul, mul-le-mul_right}
 use native.Mathlib.Omega.{arith}
 use lib.Dec.{T, ltb, ltb→lt}
-use lib.ListN.{length, set, replicate, length-replicate, drop_of_length-le}
+use lib.ListN.{length, replicate, length-replicate}
 use lib.Ieee.{Float}
 use mir.Syntax.{w64}
 use mir.Val.{Fits}
-use Rattle.definitions.specs.Lists.{at, range, upto, overwritten}
+use Rattle.definitions.specs.Lists.{at}
 use Rattle.definitions.specs.Floats.{zero_f}
 use Rattle.definitions.specs.Bins.{below}
 use Rattle.definitions.specs.Blocks as blocks
 use Rattle.definitions.specs.Blocks.{CartesianBlock, Cell, cell_pairs}
 use Rattle.definitions.specs.Run.{place}
-use Rattle.laws.proofs.Places.{fold_pack, bump, overwritten_turn}
+use Rattle.laws.proofs.Places.{fold_pack, bump}
 use Rattle.reducer.proofs.Placewise.{consumed_length}
 use Rattle.reducer.specs.Consume.{built_bins, built_find, built_bin}
 use Rattle.parallel_serial.specs.declared.Setup.{Setup}
 use Rattle.twopoint_cartesian.specs.declared.Mean.{Mean}
 use Rattle.twopoint_cartesian.specs.Cells.{fresh, cells_added, pair_step, state_merged, Room, Roomy, merged_in, mean_state, offset_cells}
 use Rattle.twopoint_cartesian.proofs.Loops.{left_turn, left_done}
-
--- ---- zeros
-zeros : (k n : ℕ) → map (λ p. zero_f false) (range k n) ≡ replicate n (zero_f false)
-zeros k zero = refl
-zeros k (suc n) = ap (λ (l : List Float). zero_f false ∷ l) (zeros (suc k) n)
-
-nothing : (l : List Float) → l ++ [] ≡ l
-nothing [] = refl
-nothing (x ∷ l) = ap (λ (r : List Float). x ∷ r) (nothing l)
-
-module _ (s : List Float) where
-  pub clear_turn : (e : ℕ) (q : List Float) → e < length s → q ≡ overwritten e (λ p. zero_f false) s → set q e (zero_f false) ≡ overwritten (e + 1) (λ p. zero_f false) s
-  clear_turn e q h inv = overwritten_turn (λ p. zero_f false) e s q h inv
-
-  pub clear_done : (e : ℕ) (q : List Float) → length s ≤ e → e ≤ length s → q ≡ overwritten e (λ p. zero_f false) s → q ≡ fresh (length s)
-  unfolding fresh
-  clear_done e q h k inv =
-      let d : e ≡ length s = omega arith in
-      inv ∙ ap (λ (n : ℕ). overwritten n (λ p. zero_f false) s) d
-      ∙ ap (λ (l : List Float). map (λ p. zero_f false) (upto (length s)) ++ l) (drop_of_length-le s {i = length s} (omega arith)) ∙ nothing (map (λ p. zero_f false) (upto (length s))) ∙ zeros 0 (length s)
 
 -- ---- the merge
 module _ (x n k : ℕ) (hx : x < 256) (hn : n ≤ 256) where
@@ -72,13 +53,13 @@ module _ (n b : ℕ) (state : List Float) where
     merge_done = left_done (λ e s. bump (place n e b) (at state e) s) (length state) z e s
 
 -- ---- one offset, by what the lookup answered
-pub below_found : (n : ℕ) (o : Option ℕ) (b : ℕ) → below n o ≡ some b → b < n
-below_found n none b e = absurd (none-ne-some b e)
-below_found n (some i) b e = go (ltb i n) (ltb→lt i n) e
+pub below_found : (n : ℕ) (o : Option ℕ) (b : ℕ) → below n o ≡ Some b → b < n
+below_found n None b e = absurd (none-some b e)
+below_found n (Some i) b e = go (ltb i n) (ltb→lt i n) e
   where
-    go : (t : Bool) → (T t → i < n) → cond t (some i) none ≡ some b → b < n
-    go true h p = rw (some-injective i b p) at (h tt)
-    go false h p = absurd (none-ne-some b p)
+    go : (t : Bool) → (T t → i < n) → cond t (Some i) None ≡ Some b → b < n
+    go true h p = rw (same_Some i b p) at (h tt)
+    go false h p = absurd (none-some b p)
 
 -- the cells keep the state's length
 pub fold_length : {A : Type 0} (upd : A → List Float → List Float) → ((x : A) (s : List Float) → length (upd x s) ≡ length s) → (l : List A) (s : List Float) → length (fold_pack upd l s) ≡ length s
@@ -94,7 +75,7 @@ module _ (setup : Setup) (value_edges : List Float) (a b : CartesianBlock) where
   unfolding offset_cells fresh
   cells_length d n = fold_length (pair_step setup value_edges a b) pair_length (cell_pairs a b d) (replicate n (zero_f false)) ∙ length-replicate n (zero_f false)
 
-pub bin_room : (setup : Setup) (list value_edges : List Float) (size : ℕ) (x : Float) (bin len : ℕ) → built_bin setup.edges list x ≡ some bin → Roomy setup list value_edges size len → Room setup.n_states bin size len
+pub bin_room : (setup : Setup) (list value_edges : List Float) (size : ℕ) (x : Float) (bin len : ℕ) → built_bin setup.edges list x ≡ Some bin → Roomy setup list value_edges size len → Room setup.n_states bin size len
 unfolding built_bin
 bin_room setup list value_edges size x bin len h k =
     let l = below_found (built_bins setup.edges (length list)) (built_find setup.edges list x) bin h in
@@ -103,8 +84,8 @@ bin_room setup list value_edges size x bin len h k =
 pub room_sized : (n bin size len k : ℕ) → k ≡ size → Room n bin size len → Room n bin k len
 room_sized n bin size len k e r = rw e r
 
-pub state_merged_law : (n bin : ℕ) (state t s q : List Float) → state ≡ t → q ≡ state_merged n bin state 0 (length state) s → q ≡ merged_in (some bin) n t s
-state_merged_law n bin state t s q f g = g ∙ ap (λ (x : List Float). merged_in (some bin) n x s) f
+pub state_merged_law : (n bin : ℕ) (state t s q : List Float) → state ≡ t → q ≡ state_merged n bin state 0 (length state) s → q ≡ merged_in (Some bin) n t s
+state_merged_law n bin state t s q f g = g ∙ ap (λ (x : List Float). merged_in (Some bin) n x s) f
 
 -- ---- a mean's two numbers
 module _ (n bin len k : ℕ) (r : Room n bin 2 len) where

@@ -1,6 +1,6 @@
 -- The walk leaves in scratch, place by place, what the definitions say. Assumes nothing.
 use mathlib.Core.Path.{◌≡◌, refl, ap, ◌∙◌}
-use mathlib.Core.Option.{Option, none, some}
+use Rattle.std.specs.Prelude.{Option, None, Some}
 use mathlib.Core.Bool.{Bool, true, false, cond}
 use mathlib.Core.List.{List}
 use Prim.Native.Nat.{ℕ, zero, suc, ◌+◌, ◌*◌, ◌<◌, ◌≤◌}
@@ -37,32 +37,32 @@ loop_fold : (upd : ℕ → List Float → List Float) (k n : ℕ) (s : List Floa
 loop_fold upd k zero s = refl
 loop_fold upd k (suc n) s = loop_fold upd (suc k) n (upd k s)
 
-neither : {x : Float} (t : Bool) → add_opt (cond t none none) x ≡ x
+neither : {x : Float} (t : Bool) → add_opt (cond t None None) x ≡ x
 neither true = refl
 neither false = refl
 
 -- of the terms only that of q is one
 module _ (t : Bool) (g : ℕ → Float) (q : ℕ) where
   abbrev only : ℕ → Option Float
-  only e = cond t (cond (eqb e q) (some (g e)) none) none
+  only e = cond t (cond (eqb e q) (Some (g e)) None) None
 
   past : (k m : ℕ) (x : Float) → q < k → fold_at only x (range k m) ≡ x
   past k zero x h = refl
   past k (suc m) x h = ap (λ (y : Float). fold_at only y (range (suc k) m)) (other t (ne_eqb k q (omega arith))) ∙ past (suc k) m x (omega arith)
     where
-      other : (u : Bool) → eqb k q ≡ false → add_opt (cond u (cond (eqb k q) (some (g k)) none) none) x ≡ x
+      other : (u : Bool) → eqb k q ≡ false → add_opt (cond u (cond (eqb k q) (Some (g k)) None) None) x ≡ x
       other true e = rw e
       other false e = refl
 
-  once : (k m : ℕ) (x : Float) → k ≤ q → q < k + m → fold_at only x (range k m) ≡ add_opt (cond t (some (g q)) none) x
+  once : (k m : ℕ) (x : Float) → k ≤ q → q < k + m → fold_at only x (range k m) ≡ add_opt (cond t (Some (g q)) None) x
   once k zero x h l = absurd (omega arith)
   once k (suc m) x h l = go (eqb k q) refl (λ n. once (suc k) m x n (omega arith))
     where
-      go : (u : Bool) → eqb k q ≡ u → (suc k ≤ q → fold_at only x (range (suc k) m) ≡ add_opt (cond t (some (g q)) none) x)
-          → fold_at only (add_opt (cond t (cond (eqb k q) (some (g k)) none) none) x) (range (suc k) m) ≡ add_opt (cond t (some (g q)) none) x
+      go : (u : Bool) → eqb k q ≡ u → (suc k ≤ q → fold_at only x (range (suc k) m) ≡ add_opt (cond t (Some (g q)) None) x)
+          → fold_at only (add_opt (cond t (cond (eqb k q) (Some (g k)) None) None) x) (range (suc k) m) ≡ add_opt (cond t (Some (g q)) None) x
       go true e next =
           let d : k ≡ q = eqb-true k q e in
-          (rw e (past (suc k) m (add_opt (cond t (some (g k)) none) x) (omega arith))) ∙ ap (λ (i : ℕ). add_opt (cond t (some (g i)) none) x) d
+          (rw e (past (suc k) m (add_opt (cond t (Some (g k)) None) x) (omega arith))) ∙ ap (λ (i : ℕ). add_opt (cond t (Some (g i)) None) x) d
       go false e next = (rw e (ap (λ (y : Float). fold_at only y (range (suc k) m)) (neither t))) ∙ next (omega (arith, eqb-false k q e))
 
 module _ (n bin size : ℕ) (l : bin < n) (st s : List Float) (es : length st ≡ size) (e : length s ≡ n * size) (p : ℕ) (h : p < n * size) where
@@ -72,11 +72,11 @@ module _ (n bin size : ℕ) (l : bin < n) (st s : List Float) (es : length st �
       let k : p < size * n = omega (arith, mul_comm n size) in
       (div-lt_iff_lt-mul z).1 k
 
-  merge_at : at (state_merged n bin st 0 (length st) s) p ≡ add_opt (in_bin (some bin) (state_at n p) (some (at st (number_at n p)))) (at s p)
+  merge_at : at (state_merged n bin st 0 (length st) s) p ≡ add_opt (in_bin (Some bin) (state_at n p) (Some (at st (number_at n p)))) (at s p)
   unfolding state_merged
   merge_at =
       ap (λ (z : List Float). at z p) (loop_fold (λ e s. bump (place n e bin) (at st e) s) 0 (length st) s)
-      ∙ placewise (λ e s. bump (place n e bin) (at st e) s) (n * size) (λ p e. in_bin (some bin) (state_at n p) (in_bin (some e) (number_at n p) (some (at st e)))) (λ e s. length-set s (place n e bin) _)
+      ∙ placewise (λ e s. bump (place n e bin) (at st e) s) (n * size) (λ p e. in_bin (Some bin) (state_at n p) (in_bin (Some e) (number_at n p) (Some (at st e)))) (λ e s. length-set s (place n e bin) _)
       (λ e s p d k. hist_at n bin e p (at st e) s l (omega arith)) (range 0 (length st)) s p e h
       ∙ once (eqb bin (state_at n p)) (at st) (number_at n p) 0 (length st) (at s p) (omega arith) (omega (arith, number_below))
 
@@ -97,7 +97,7 @@ module _ (list value_edges : List Float) (edges : Edges) (kind : Kind) (op : Pai
     pair_at_law q s p e h =
         let d = datum_of (op_of op) (reading_at a q.0) (reading_at b q.1) in
         consumed_at_law value_edges 1 0 d s kind (room 1 (kind_size (kind_of kind value_edges)) 0 (length s) (omega arith) (omega arith) (omega arith) (omega arith)) p (omega arith)
-        ∙ λ t. add_opt (cond (eqb 0 (mod-one p t)) (datum_term (kind_of kind value_edges) (div-one p t) d) none) (at s p)
+        ∙ λ t. add_opt (cond (eqb 0 (mod-one p t)) (datum_term (kind_of kind value_edges) (div-one p t) d) None) (at s p)
 
     cells_at_law : (d : blocks.Idx3DOffset) (p : ℕ) → p < kind_size (kind_of kind value_edges) → at (offset_cells the_setup value_edges a b d (fresh (kind_size (kind_of kind value_edges)))) p
         ≡ fold_at (λ q. datum_term (kind_of kind value_edges) p (datum_of (op_of op) (reading_at a q.0) (reading_at b q.1))) (zero_f false) (cell_pairs a b d)
@@ -114,8 +114,8 @@ module _ (list value_edges : List Float) (edges : Edges) (kind : Kind) (op : Pai
     offset_length d s = go (built_bin (made_edges edges) list (distance_squared width a b d)) (offset_cells the_setup value_edges a b d (fresh (kind_size (kind_of kind value_edges))))
       where
         go : (o : Option ℕ) (st : List Float) → length (merged_in o (bins (edges_of edges list)) st s) ≡ length s
-        go none st = refl
-        go (some bin) st =
+        go None st = refl
+        go (Some bin) st =
             ap length (loop_fold (λ e s. bump (place (bins (edges_of edges list)) e bin) (at st e) s) 0 (length st) s)
             ∙ fold_length (λ e s. bump (place (bins (edges_of edges list)) e bin) (at st e) s) (λ e s. length-set s (place (bins (edges_of edges list)) e bin) _) (range 0 (length st)) s
 
@@ -131,11 +131,11 @@ module _ (list value_edges : List Float) (edges : Edges) (kind : Kind) (op : Pai
         st = offset_cells the_setup value_edges a b d (fresh (kind_size (kind_of kind value_edges)))
 
         go : (o : Option ℕ) → bin_of (edges_of edges list) (distance_squared width a b d) ≡ o
-            → at (merged_in o n st s) p ≡ add_opt (in_bin o (state_at n p) (some (fold_at (cells_at the_run p a b) (zero_f false) (cell_pairs a b d)))) (at s p)
-        go none i = refl
-        go (some bin) i =
+            → at (merged_in o n st s) p ≡ add_opt (in_bin o (state_at n p) (Some (fold_at (cells_at the_run p a b) (zero_f false) (cell_pairs a b d)))) (at s p)
+        go None i = refl
+        go (Some bin) i =
             merge_at n bin (kind_size (kind_of kind value_edges)) (bin_bounded (edges_of edges list) (distance_squared width a b d) bin i) st s (cells_length the_setup value_edges a b d (kind_size (kind_of kind value_edges))) e p h
-            ∙ ap (λ (x : Float). add_opt (in_bin (some bin) (state_at n p) (some x)) (at s p))
+            ∙ ap (λ (x : Float). add_opt (in_bin (Some bin) (state_at n p) (Some x)) (at s p))
             (cells_at_law d (number_at n p) (number_below n bin (kind_size (kind_of kind value_edges)) (bin_bounded (edges_of edges list) (distance_squared width a b d) bin i) st s (cells_length the_setup value_edges a b d (kind_size (kind_of kind value_edges))) e p h))
 
     -- all of them, from zeros

@@ -1,15 +1,13 @@
 -- A run: what follows of the number that it answers, and that the pack of an accepted one is merged. Assumes nothing.
 use mathlib.Core.Path.{◌≡◌, refl, sym, ap, subst, ◌∙◌}
-use mathlib.Core.Bool.{Bool, true, false, cond}
+use mathlib.Core.Bool.{true, false}
 use mathlib.Core.List.{List, [], ◌++◌}
 use Prim.Native.Nat.{ℕ, ◌*◌, ◌≤◌}
 use native.Mathlib.Omega.{arith}
-use lib.ListN.{length, take, drop, length-replicate}
-use lib.Seq.{length-take-le, length_front, take-append_seam}
+use lib.ListN.{length, take, drop, replicate, length-replicate}
+use lib.Seq.{length-take-le, take-append_seam}
 use lib.Dec.{T}
 use lib.Ieee.{Float, binary64, fits}
-use mir.Syntax.{w64}
-use mir.Val.{Fits}
 use Rattle.definitions.specs.Lists.{at, fold_at}
 use Rattle.definitions.specs.Floats.{zero_f}
 use Rattle.definitions.specs.Bins.{bins}
@@ -35,47 +33,39 @@ use Rattle.parallel_serial.specs.Drive as drive
 use Rattle.parallel_serial.specs.Drive.{zero_pack, added_scratch, built_edges, built_reducer, sets_number, sets_run}
 use Rattle.parallel_serial.proofs.Refusals.{Drivable, Accepted, accepted}
 use Rattle.parallel_serial.proofs.Built.{built_made, reducer_made}
+use Rattle.std.specs.declared.result.Result.{Result}
+use Rattle.std.specs.declared.result.Result.TheVariants.{Ok}
+use Rattle.refusals.specs.declared.Refusal.{Refusal}
+use Rattle.refusals.specs.Numbers.{number_of}
 use Rattle.parallel_serial.proofs.Scratch.{lent_length, lent_zeros, added_merged}
-use Rattle.idx_3d_offset.specs.Offsets.{auto_seq}
 use Rattle.idx_3d_offset.proofs.Sequence.{cross_all, auto_fold}
-use Rattle.spatial.specs.declared.Block.{Block}
 use Rattle.spatial.specs.declared.CellWidth.{CellWidth}
-use Rattle.spatial.specs.Readings.{block_of, width_of}
-use Rattle.spatial.specs.Refusals.{sets_for}
+use Rattle.spatial.specs.declared.Sets.{Sets}
+use Rattle.spatial.specs.declared.Sets.TheVariants.{Auto, Cross}
+use Rattle.spatial.specs.Readings.{block_of, width_of, first_of, second_of, sets_of}
 use Rattle.parallel_serial.specs.declared.Setup.{Setup}
 use Rattle.twopoint_cartesian.specs.Readings.{axes_of}
-use Rattle.twopoint_cartesian.specs.Cells.{Ready, is_mean, Findable, Roomy, zero_state, seq_for, offsets_added}
+use Rattle.twopoint_cartesian.specs.Cells.{AllReady, is_mean, Findable, Roomy, seq_of, offsets_added}
 use Rattle.twopoint_cartesian.proofs.Ready.{ready_sets}
 use Rattle.twopoint_cartesian.proofs.Means.{any_added, mean_size}
 use Rattle.twopoint_cartesian.proofs.Placewise.{the_run, filled_length, filled_at}
 
 -- ---- what follows where a run has no refusal; x is what a call answered
-module _ (auto : Bool) (width : blocks.CellWidth) (a b : CartesianBlock) (edges : Edges) (list : List Float) (kind : Kind) (value_edges : List Float) (shape : Shape) (s : List Float) (x : ℕ)
-    (h : x ≡ sets_number (sets_for auto width a b) (edges_of edges list) (kind_of kind value_edges) shape (length s)) where
-  module _ (z : x ≡ 0) where
-    all : Accepted (over_sets (sets_for auto width a b)) (refusal (set_rules (sets_for auto width a b))) (refusal (pair_rules (sets_for auto width a b))) (edges_of edges list) (kind_of kind value_edges) shape (length s)
-    unfolding drive.sets_number
-    all = accepted (over_sets (sets_for auto width a b)) (refusal (set_rules (sets_for auto width a b))) (refusal (pair_rules (sets_for auto width a b))) (edges_of edges list) (kind_of kind value_edges) shape (length s) (sym h ∙ z)
+module _ (sets : Sets) (width : blocks.CellWidth) (edges : Edges) (list : List Float) (kind : Kind) (value_edges : List Float) (shape : Shape) (s : List Float) (x : Result (Unit {0}) Refusal)
+    (h : number_of x ≡ sets_number (sets_of sets width) (edges_of edges list) (kind_of kind value_edges) shape (length s)) (v : Unit {0}) (z : x ≡ Ok v) where
+  all : Accepted (over_sets (sets_of sets width)) (refusal (set_rules (sets_of sets width))) (refusal (pair_rules (sets_of sets width))) (edges_of edges list) (kind_of kind value_edges) shape (length s)
+  unfolding drive.sets_number
+  all = accepted (over_sets (sets_of sets width)) (refusal (set_rules (sets_of sets width))) (refusal (pair_rules (sets_of sets width))) (edges_of edges list) (kind_of kind value_edges) shape (length s) (sym h ∙ ap number_of z)
 
-    pub drivable : Drivable (edges_of edges list) (kind_of kind value_edges) shape (length s)
-    drivable = all.drivable
+  pub drivable : Drivable (edges_of edges list) (kind_of kind value_edges) shape (length s)
+  drivable = all.drivable
 
-    module _ (same : cond auto a b ≡ b) where
-      pub ready_first : Ready a
-      ready_first = (ready_sets auto width a b same all.limits all.own).0
-
-      pub ready_second : Ready b
-      ready_second = (ready_sets auto width a b same all.limits all.own).1
+  pub all_ready : AllReady sets
+  all_ready = ready_sets sets width all.limits all.own
 
 -- ---- the parts that are lent
-pub used_fits : (n : ℕ) → n ≤ 4096 → Fits w64 n
-used_fits n h = record { fits = omega arith }
 
 module _ (n : ℕ) (z : List Float) (h : n ≤ 4096) (e : z ≡ zero_pack) where
-  pub used_part : n ≤ length z
-  unfolding drive.zero_pack
-  used_part = omega (arith, ap length e, length-replicate 4096 (zero_f false))
-
   pub used_lent : n ≡ length (take n z)
   used_lent = lent_length z n h e
 
@@ -88,20 +78,12 @@ module _ (n m : ℕ) (z : List Float) (h : n ≤ m) (k : m ≤ 4096) (e : z ≡ 
   pub small_lent : n ≡ length (take n z)
   small_lent = sym (length-take-le n z small_part)
 
--- a part that came back, of the whole
-pub back_part : (n : ℕ) (z t : List Float) → length t ≡ length (take n z) → n ≤ length z → n ≤ length (t ++ drop n z)
-back_part n z t k h = omega (arith, length_front z t n k)
-
-module _ (n : ℕ) (l : n ≤ 256) (z : List Float) (h : z ≡ zero_state) where
+module _ (n : ℕ) (l : n ≤ 256) (z : List Float) (h : z ≡ replicate 256 (zero_f false)) where
   pub state_part : n ≤ length z
-  unfolding zero_state
   state_part = omega (arith, ap length h, length-replicate 256 (zero_f false))
 
   pub state_lent : n ≡ length (take n z)
   state_lent = sym (length-take-le n z state_part)
-
-pub same_blocks : (auto : Bool) (a b : CartesianBlock) → cond auto a b ≡ b → auto ≡ true → a ≡ b
-same_blocks auto a b s t = rw t at s
 
 -- ---- what an accepted run's setup has
 module _ (edges : Edges) (list : List Float) (kind : Kind) (value_edges : List Float) (op : PairOperation) (shape : Shape) (len : ℕ) (be : BuiltEdges) (rd : Reducer)
@@ -114,9 +96,6 @@ module _ (edges : Edges) (list : List Float) (kind : Kind) (value_edges : List F
 
   made_reducer : rd ≡ made kind
   made_reducer = er ∙ reducer_made kind value_edges d.values
-
-  pub used_limit : shape.n_states * shape.state_size ≤ 4096
-  used_limit = rw (d.states, d.size) d.limit
 
   pub roomy : Roomy the_setup_law list value_edges shape.state_size (shape.n_states * shape.state_size)
   roomy =
@@ -157,44 +136,33 @@ pub added_filled : (setup : Setup) (list value_edges : List Float) (width : bloc
 added_filled setup list value_edges width a b k size l n s z t q ek en ez et h =
     h ∙ (λ i. added_scratch s (take (sym en i) (t ++ drop n z))) ∙ ap (added_scratch s) (take-append_seam t (drop n z) ∙ et) ∙ λ i. added_scratch s (offsets_added setup list value_edges width a b (ek i) l (ez i))
 
--- the same of a mean, whose scratch was lent whole; t and u are the zeros
-pub from_zeros : (setup : Setup) (list : List Float) (width : blocks.CellWidth) (a b : CartesianBlock) (l : List blocks.Idx3DOffset) (s t u q : List Float) → t ≡ u
-    → q ≡ added_scratch s (offsets_added setup list [] width a b 2 l t) → q ≡ added_scratch s (offsets_added setup list [] width a b 2 l u)
-from_zeros setup list width a b l s t u q e h = h ∙ λ i. added_scratch s (offsets_added setup list [] width a b 2 l (e i))
-
-module _ (r : Run) (width : blocks.CellWidth) (a b : CartesianBlock) (ha : Ready a) (hb : Ready b) where
-  scratch_is : (auto : Bool) (p : ℕ) → cond auto a b ≡ b → r.sets ≡ sets_for auto width a b
-      → fold_at (offset_at r p width a b) (zero_f false) (seq_for auto (record { z = a.nz; y = a.ny; x = a.nx }) (record { z = b.nz; y = b.ny; x = b.nx })) ≡ scratch r p
+module _ (r : Run) (width : blocks.CellWidth) where
+  scratch_is : (s : Sets) (p : ℕ) → AllReady s → r.sets ≡ sets_of s width → fold_at (offset_at r p width (block_of (first_of s)) (block_of (second_of s))) (zero_f false) (seq_of s) ≡ scratch r p
   unfolding run.scratch run.scratch_of
-  scratch_is true p s e =
-      (λ t. fold_at (offset_at r p width a (sym s t)) (zero_f false) (auto_seq (record { z = a.nz; y = a.ny; x = a.nx })))
-      ∙ sym (auto_fold (record { z = a.nz; y = a.ny; x = a.nx }) ha.axes (offset_at r p width a a) (zero_f false)) ∙ sym (ap (run.scratch_of r p) e)
-  scratch_is false p s e =
-      ap (fold_at (offset_at r p width a b) (zero_f false)) (cross_all (record { z = a.nz; y = a.ny; x = a.nx }) (record { z = b.nz; y = b.ny; x = b.nx }) ha.axes hb.axes) ∙ sym (ap (run.scratch_of r p) e)
+  scratch_is (Auto a) p u e = sym (auto_fold (axes_of a) u.first.axes (offset_at r p width (block_of a) (block_of a)) (zero_f false)) ∙ sym (ap (run.scratch_of r p) e)
+  scratch_is (Cross a b) p u e = ap (fold_at (offset_at r p width (block_of a) (block_of b)) (zero_f false)) (cross_all (axes_of a) (axes_of b) u.first.axes u.second.axes) ∙ sym (ap (run.scratch_of r p) e)
 
 -- q is what the pack holds after the walk from zeros
-pub driven : (auto : Bool) (a0 a1 a2 aw : List Float) (a : Block) (b0 b1 b2 bw : List Float) (b : Block) (width : CellWidth) (edges : Edges) (list : List Float) (kind : Kind) (value_edges : List Float)
-    (op : PairOperation) (shape : Shape) (s q : List Float) (be : BuiltEdges) (rd : Reducer)
+pub driven : (sets : Sets) (width : CellWidth) (edges : Edges) (list : List Float) (kind : Kind) (value_edges : List Float) (op : PairOperation) (shape : Shape) (s q : List Float) (be : BuiltEdges) (rd : Reducer)
     → q
     ≡ added_scratch s
-    (offsets_added (record { op = op; edges = be; reducer = rd; n_states = shape.n_states }) list value_edges (width_of width) (block_of a a0 a1 a2 aw) (block_of b b0 b1 b2 bw) shape.state_size
-    (seq_for auto (axes_of a) (axes_of b)) (take (shape.n_states * shape.state_size) zero_pack))
-    → be ≡ built_edges edges → rd ≡ built_reducer kind → Ready (block_of a a0 a1 a2 aw) → Ready (block_of b b0 b1 b2 bw) → cond auto (block_of a a0 a1 a2 aw) (block_of b b0 b1 b2 bw) ≡ block_of b b0 b1 b2 bw
-    → Drivable (edges_of edges list) (kind_of kind value_edges) shape (length s)
-    → q ≡ merged (sets_run (sets_for auto (width_of width) (block_of a a0 a1 a2 aw) (block_of b b0 b1 b2 bw)) edges list kind value_edges op shape) s
+    (offsets_added (record { op = op; edges = be; reducer = rd; n_states = shape.n_states }) list value_edges (width_of width) (block_of (first_of sets)) (block_of (second_of sets)) shape.state_size
+    (seq_of sets) (take (shape.n_states * shape.state_size) zero_pack))
+    → be ≡ built_edges edges → rd ≡ built_reducer kind → AllReady sets → Drivable (edges_of edges list) (kind_of kind value_edges) shape (length s)
+    → q ≡ merged (sets_run (sets_of sets (width_of width)) edges list kind value_edges op shape) s
 unfolding sets_run
-driven auto a0 a1 a2 aw a b0 b1 b2 bw b width edges list kind value_edges op shape s q be rd h eb er ha hb same d =
-    let A = block_of a a0 a1 a2 aw in
-    let B = block_of b b0 b1 b2 bw in
+driven sets width edges list kind value_edges op shape s q be rd h eb er u d =
+    let A = block_of (first_of sets) in
+    let B = block_of (second_of sets) in
     let w = width_of width in
-    let l = seq_for auto (axes_of a) (axes_of b) in
+    let l = seq_of sets in
     let f = eb ∙ built_made edges list d.edges in
     let g = er ∙ reducer_made kind value_edges d.values in
     let n = bins (edges_of edges list) * kind_size (kind_of kind value_edges) in
-    let u = (λ i. take (d.states i * d.size i) zero_pack) ∙ lent_zeros zero_pack n d.limit refl in
-    let sets = sets_for auto w A B in
+    let z = (λ i. take (d.states i * d.size i) zero_pack) ∙ lent_zeros zero_pack n d.limit refl in
+    let all = sets_of sets w in
     h
-    ∙ (λ i. added_scratch s (offsets_added (record { op = op; edges = f i; reducer = g i; n_states = d.states i }) list value_edges w A B (d.size i) l (u i)))
-    ∙ added_merged (the_run list value_edges edges kind op shape sets) s _
-    (filled_length list value_edges edges kind op shape sets d.few d.small w A B l _ ∙ length-replicate n (zero_f false)) d.within
-    (λ p k. filled_at list value_edges edges kind op shape sets d.few d.small w A B l p k ∙ scratch_is (the_run list value_edges edges kind op shape sets) w A B ha hb auto p same refl)
+    ∙ (λ i. added_scratch s (offsets_added (record { op = op; edges = f i; reducer = g i; n_states = d.states i }) list value_edges w A B (d.size i) l (z i)))
+    ∙ added_merged (the_run list value_edges edges kind op shape all) s _
+    (filled_length list value_edges edges kind op shape all d.few d.small w A B l _ ∙ length-replicate n (zero_f false)) d.within
+    (λ p k. filled_at list value_edges edges kind op shape all d.few d.small w A B l p k ∙ scratch_is (the_run list value_edges edges kind op shape all) w sets p u refl)

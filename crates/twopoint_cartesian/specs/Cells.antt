@@ -1,6 +1,6 @@
 -- What the private functions ask and promise: the cells of an offset into a state of their own, its merge into its bin, and the walk over the offsets, as updates of stores.
 use Rattle.std.specs.Prelude.{◌≡◌, List, [], ◌∷◌, Bool, true, false, cond, ℕ, ◌+◌, ◌*◌, ◌≤◌, ◌<◌, ltb, length, get_or, take, drop, replicate, ℤ, nat_abs, Float}
-use Rattle.std.proofs.Math.Option.{Option, none, some}
+use Rattle.std.specs.Prelude.{Option, None, Some}
 use Rattle.std.specs.Float.{binary64}
 use Rattle.std.specs.Float.Ieee.{add, mul}
 use Rattle.definitions.specs.Lists.{at}
@@ -20,46 +20,58 @@ use Rattle.reducer.specs.Consume.{built_bins, built_bin, reducer_size, consumed}
 use Rattle.edge_table.specs.declared.Table.{Table}
 use Rattle.edge_table.specs.Tabled.{Usable, Tabled}
 use Rattle.idx_3d_offset.specs.declared.Axes.{Axes}
-use Rattle.idx_3d_offset.specs.Offsets.{Walkable, cross_seq, auto_seq}
+use Rattle.idx_3d_offset.specs.declared.Idx3DOffset.{Idx3DOffset}
+use Rattle.idx_3d_offset.specs.Offsets.{idx_of, Reach, Walkable, cross_seq, auto_seq}
 use Rattle.parallel_serial.specs.declared.Setup.{Setup}
-use Rattle.twopoint_cartesian.specs.declared.Tables.{Tables}
+use Rattle.twopoint_cartesian.specs.declared.Distances.{Distances}
+use Rattle.twopoint_cartesian.specs.declared.Values.{Values}
 use Rattle.twopoint_cartesian.specs.declared.Mean.{Mean}
+use Rattle.twopoint_cartesian.specs.declared.Fields.{Fields}
+use Rattle.twopoint_cartesian.specs.declared.Planes.{Planes}
+use Rattle.spatial.specs.declared.Block.{Block}
+use Rattle.spatial.specs.declared.Sets.{Sets}
+use Rattle.spatial.specs.declared.Sets.TheVariants.{Auto, Cross}
+use Rattle.spatial.specs.Readings.{block_of, first_of, second_of}
+use Rattle.twopoint_cartesian.specs.Readings.{axes_of}
 
 -- a block's three components and its weights
-pub record Fields : Type 0 where
+pub record Columns : Type 0 where
   pub comp0 : List Float
   pub comp1 : List Float
   pub comp2 : List Float
   pub weights : List Float
 
-abbrev pub fields : List Float → List Float → List Float → List Float → Fields
+abbrev pub fields : List Float → List Float → List Float → List Float → Columns
 fields c0 c1 c2 w = record { comp0 = c0; comp1 = c1; comp2 = c2; weights = w }
 
-abbrev pub reading_in : Fields → ℕ → Reading
+abbrev pub fields_of : Fields → Columns
+fields_of f = fields f.comp0.now f.comp1.now f.comp2.now f.weights.now
+
+abbrev pub reading_in : Columns → ℕ → Reading
 reading_in f i = record { v0 = at f.comp0 i; v1 = at f.comp1 i; v2 = at f.comp2 i; w = at f.weights i }
 
 -- ---- what slices hold
 -- cell i
-pub record Holds (f : Fields) (i : ℕ) : Type 0 where
+pub record Holds (f : Columns) (i : ℕ) : Type 0 where
   pub in0 : i < length f.comp0
   pub in1 : i < length f.comp1
   pub in2 : i < length f.comp2
   pub in_w : i < length f.weights
 
 -- n cells from i on
-pub record RowFits (f : Fields) (i n : ℕ) : Type 0 where
+pub record RowFits (f : Columns) (i n : ℕ) : Type 0 where
   pub in0 : i + n ≤ length f.comp0
   pub in1 : i + n ≤ length f.comp1
   pub in2 : i + n ≤ length f.comp2
   pub in_w : i + n ≤ length f.weights
 
 -- k rows of n cells, s apart
-pub record PlaneFits (f : Fields) (i s n k : ℕ) : Type 0 where
+pub record PlaneFits (f : Columns) (i s n k : ℕ) : Type 0 where
   pub start : i ≤ length f.weights
   pub row : (y : ℕ) → y < k → RowFits f (i + y * s) n
 
 -- l planes, t apart
-pub record BlockFits (f : Fields) (i s t n k l : ℕ) : Type 0 where
+pub record BlockFits (f : Columns) (i s t n k l : ℕ) : Type 0 where
   pub plane : (z : ℕ) → z < l → PlaneFits f (i + z * t) s n k
 
 -- a global offset or an offset between cells: no sum of three is near the machine's limit
@@ -83,6 +95,17 @@ pub record Ready (b : CartesianBlock) : Type 0 where
   pub in2 : length b.comp2 ≡ length b.weights
   pub global : AllNear b.gz b.gy b.gx
 
+-- two accepted blocks, and an offset within their reach
+pub record Reached (a b : Block) (o : Idx3DOffset) : Type 0 where
+  pub first : Ready (block_of a)
+  pub second : Ready (block_of b)
+  pub reach : Reach (axes_of a) (axes_of b) (idx_of o)
+
+-- the blocks of an accepted run
+pub record AllReady (s : Sets) : Type 0 where
+  pub first : Ready (block_of (first_of s))
+  pub second : Ready (block_of (second_of s))
+
 -- a cell, and strides, of which its place can be reckoned
 pub record Placed (sz sy sx : ℕ) (c : Cell) : Type 0 where
   pub z_stride : sz ≤ 65536
@@ -93,10 +116,10 @@ pub record Placed (sz sy sx : ℕ) (c : Cell) : Type 0 where
   pub x_index : c.x < 64
 
 -- ---- the cells of an offset
-abbrev pub datum_in : Setup → Fields → Fields → ℕ → ℕ → Datum
+abbrev pub datum_in : Setup → Columns → Columns → ℕ → ℕ → Datum
 datum_in setup a b i j = datum_of (op_of setup.op) (reading_in a i) (reading_in b j)
 
-module _ (setup : Setup) (value_edges : List Float) (a b : Fields) where
+module _ (setup : Setup) (value_edges : List Float) (a b : Columns) where
   -- cell i of a with cell j of b, into a state
   unfoldable pub cells_added : ℕ → ℕ → List Float → List Float
   cells_added i j s = consumed setup.reducer value_edges 1 0 (datum_in setup a b i j) s
@@ -115,7 +138,7 @@ module _ (setup : Setup) (value_edges : List Float) (a b : Fields) where
 
 -- ---- a histogram's row
 -- the value of pair x of a row
-unfoldable pub row_value : Setup → Fields → Fields → ℕ → ℕ → ℕ → Float
+unfoldable pub row_value : Setup → Columns → Columns → ℕ → ℕ → ℕ → Float
 row_value setup a b i j x = component_sum (datum_in setup a b (i + x) (j + x))
 
 -- the weight to the number of a bin, if it is one
@@ -134,7 +157,7 @@ pub record Binned (setup : Setup) (edges : BuiltEdges) (value_edges : List Float
   pub small : size ≤ 256
 
 -- the values of m rows of n, one row after another
-pub record Gathered (setup : Setup) (a b : Fields) (i j sa sb n m : ℕ) (values : List Float) : Type 0 where
+pub record Gathered (setup : Setup) (a b : Columns) (i j sa sb n m : ℕ) (values : List Float) : Type 0 where
   pub value : (r x : ℕ) → r < m → x < n → at values (r * n + x) ≡ row_value setup a b (i + r * sa) (j + r * sb) x
 
 -- m rows of n, s apart, are in a slice of this length
@@ -182,7 +205,7 @@ no_mean = record { total = zero_f false; weight = zero_f false }
 abbrev pub mean_state : Mean → List Float
 mean_state m = m.total ∷ m.weight ∷ []
 
-module _ (setup : Setup) (a b : Fields) where
+module _ (setup : Setup) (a b : Columns) where
   unfoldable pub cells_in_mean : ℕ → ℕ → Mean → Mean
   cells_in_mean i j m = mean_added setup.reducer (datum_in setup a b i j) m
 
@@ -195,7 +218,7 @@ module _ (setup : Setup) (a b : Fields) where
   unfoldable pub block_in_mean : ℕ → ℕ → ℕ → ℕ → ℕ → ℕ → ℕ → ℕ → ℕ → ℕ → Mean → Mean
   block_in_mean i j sa sb ta tb n k z l m = loop_left (λ z m. plane_in_mean (i + z * ta) (j + z * tb) sa sb n 0 k m) z l m
 
-abbrev pub fields_in : CartesianBlock → Fields
+abbrev pub fields_in : CartesianBlock → Columns
 fields_in b = fields b.comp0 b.comp1 b.comp2 b.weights
 
 -- the first cells at the offset d, and how many there are on each axis
@@ -207,6 +230,16 @@ first_b d = cell (start_b d.dz) (start_b d.dy) (start_b d.dx)
 
 abbrev pub overlap_of : CartesianBlock → CartesianBlock → Blocks.Idx3DOffset → Axes
 overlap_of a b d = record { z = count a.nz b.nz d.dz; y = count a.ny b.ny d.dy; x = count a.nx b.nx d.dx }
+
+-- the rows of the cells at the offset d
+abbrev pub planes_of : CartesianBlock → CartesianBlock → Blocks.Idx3DOffset → Planes
+planes_of a b d =
+    record {
+      rows = record { i = cell_index a (first_a d); j = cell_index b (first_b d); sa = a.sy; sb = b.sy; n = count a.nx b.nx d.dx; m = count a.ny b.ny d.dy };
+      ta = a.sz;
+      tb = b.sz;
+      l = count a.nz b.nz d.dz;
+    }
 
 -- the mean of the cells at the offset d
 unfoldable pub offset_mean : Setup → CartesianBlock → CartesianBlock → Blocks.Idx3DOffset → Mean
@@ -222,10 +255,7 @@ module _ (setup : Setup) (value_edges : List Float) (a b : CartesianBlock) where
   offset_cells d s = fold_pack pair_step (cell_pairs a b d) s
 
 -- ---- a state of its own for each offset, merged once into its bin
--- a state of zeros, and the longest; shut, so that no goal writes it out
-unfoldable pub zero_state : List Float
-zero_state = replicate 256 (zero_f false)
-
+-- a state of zeros; shut, so that no goal writes it out
 unfoldable pub fresh : ℕ → List Float
 fresh n = replicate n (zero_f false)
 
@@ -247,10 +277,10 @@ pub record Findable (setup : Setup) (edges : BuiltEdges) (list value_edges : Lis
   pub values : Usable edges value_edges
 
 -- the tables made of them
-pub record Looked (setup : Setup) (list value_edges : List Float) (tables : Tables) : Type 0 where
-  pub distances : Tabled setup.edges list tables.distances
-  pub kind : setup.reducer ≡ ComponentSumHistogram tables.edges
-  pub values : Tabled tables.edges value_edges tables.values
+pub record Looked (d : Distances) (v : Values) : Type 0 where
+  pub distances : Tabled v.setup.edges d.list.now d.table
+  pub kind : v.setup.reducer ≡ ComponentSumHistogram v.edges
+  pub values : Tabled v.edges v.list.now v.table
 
 -- the setup's states are its bins, each of the kind's size, and there is room for them
 pub record Roomy (setup : Setup) (list value_edges : List Float) (size len : ℕ) : Type 0 where
@@ -261,8 +291,8 @@ pub record Roomy (setup : Setup) (list value_edges : List Float) (size len : ℕ
   pub pack : setup.n_states * size ≤ len
 
 abbrev pub merged_in : Option ℕ → ℕ → List Float → List Float → List Float
-merged_in none n state s = s
-merged_in (some b) n state s = state_merged n b state 0 (length state) s
+merged_in None n state s = s
+merged_in (Some b) n state s = state_merged n b state 0 (length state) s
 
 module _ (setup : Setup) (list value_edges : List Float) (width : Blocks.CellWidth) (a b : CartesianBlock) (size : ℕ) where
   unfoldable pub offset_added : Blocks.Idx3DOffset → List Float → List Float
@@ -272,7 +302,7 @@ module _ (setup : Setup) (list value_edges : List Float) (width : Blocks.CellWid
   unfoldable pub offsets_added : List Blocks.Idx3DOffset → List Float → List Float
   offsets_added l s = fold_pack offset_added l s
 
--- in auto the two blocks are one
-abbrev pub seq_for : Bool → Axes → Axes → List Blocks.Idx3DOffset
-seq_for true a b = auto_seq a
-seq_for false a b = cross_seq a b
+-- the offsets of a run
+abbrev pub seq_of : Sets → List Blocks.Idx3DOffset
+seq_of (Auto a) = auto_seq (axes_of a)
+seq_of (Cross a b) = cross_seq (axes_of a) (axes_of b)

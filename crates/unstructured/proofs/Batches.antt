@@ -1,6 +1,6 @@
 -- Rows in batches: the places that are not outside, their pairs by the numbers of their bins, and the pairs left out.
 use mathlib.Core.Path.{◌≡◌, refl, sym, ap, subst, ◌∙◌}
-use mathlib.Core.Option.{Option, none, some}
+use Rattle.std.specs.Prelude.{Option, None, Some}
 use mathlib.Core.Bool.{Bool, true, false, cond, ◌&&◌}
 use mathlib.Core.Logic.{⊎_elim}
 use mathlib.Core.List.{List, [], ◌∷◌, ◌++◌, map, map-append}
@@ -21,9 +21,6 @@ use Rattle.definitions.specs.Points as points
 use Rattle.definitions.specs.Points.{Reading, squared_diff_norm}
 use Rattle.definitions.specs.Reducer.{Datum, kept, dropped, component_sum, pair_in, datum_of}
 use Rattle.laws.proofs.Loops.{run_on, run_append}
-use Rattle.bins.specs.declared.BinIndex.{BinIndex}
-use Rattle.bins.specs.declared.BinIndex.TheVariants.{At, None}
-use Rattle.bins.specs.Answers.{index_of}
 use Rattle.reducer.specs.declared.BuiltEdges.{BuiltEdges}
 use Rattle.reducer.specs.declared.PairOperation.{PairOperation}
 use Rattle.reducer.specs.declared.Reducer.{Reducer}
@@ -40,9 +37,11 @@ use Rattle.edge_batch.proofs.Batch.{found_bins, index_in, index_number, index_bi
 use Rattle.edge_table.proofs.Lookup.{bin_low, bin_high, found_bin}
 use Rattle.parallel_serial.specs.declared.Setup.{Setup}
 use Rattle.unstructured.specs.declared.Pair.{Pair}
-use Rattle.unstructured.specs.declared.Pair.TheVariants.{Kept, Dropped}
-use Rattle.unstructured.specs.Pairs.{the_pair, point_in, Readable, built_pair, pair_added, pair_step, row_added}
-use Rattle.unstructured.specs.Batches.{Listed, Parts, reading_in, also, kept_below, picked, numbered_pair, pair_placed, pair_values, placed_to, weight_datum, weights_to, value_numbers, places_added}
+use Rattle.unstructured.specs.declared.held.Points.{Points}
+use Rattle.unstructured.specs.declared.held.Readings.{Readings}
+use Rattle.unstructured.specs.Held.{Listed, Parts}
+use Rattle.unstructured.specs.Pairs.{the_pair, point_in, built_pair, pair_added, pair_step, row_added}
+use Rattle.unstructured.specs.Batches.{reading_in, also, kept_below, picked, numbered_pair, pair_placed, pair_values, placed_to, weight_datum, weights_to, value_numbers, places_added}
 
 -- ---- one more place stored
 pub stored_next : {A : Type 0} (o : A) (d : List A) (e : ℕ) (v : A) (g : ℕ → A) → e < length d → v ≡ g e → ((x : ℕ) → x < e → get_or d x o ≡ g x)
@@ -106,10 +105,6 @@ kept_listed first last d m c l h k e =
 
 -- ---- numbers of bins
 module _ (n size b len : ℕ) where
-  many_states : leb n 4096 ≡ false → has_room n size b len ≡ false
-  unfolding has_room
-  many_states h = rw h
-
   large_states : leb size 4096 ≡ false → has_room n size b len ≡ false
   unfolding has_room
   large_states h = go (leb n 4096)
@@ -133,26 +128,26 @@ no_room r m o n b d s h = rw h
 
 -- the number of no bin is past each histogram
 histogram_number : (e : BuiltEdges) (m n b : ℕ) (d : Datum) (s : List Float) (o : Option ℕ)
-    → consumed_at (ComponentSumHistogram e) m (some (number_or o)) n b d s ≡ consumed_at (ComponentSumHistogram e) m o n b d s
+    → consumed_at (ComponentSumHistogram e) m (Some (number_or o)) n b d s ≡ consumed_at (ComponentSumHistogram e) m o n b d s
 unfolding consumed_at
-histogram_number e m n b d s (some x) = refl
-histogram_number e m n b d s none = go (ltb 4096 (built_bins e m)) refl
+histogram_number e m n b d s (Some x) = refl
+histogram_number e m n b d s None = go (ltb 4096 (built_bins e m)) refl
   where
     go : (t : Bool) → ltb 4096 (built_bins e m) ≡ t
-        → cond (has_room n (built_bins e m) b (length s)) (add_in (cond t (some 4096) none) n b d.weight s) s ≡ cond (has_room n (built_bins e m) b (length s)) s s
+        → cond (has_room n (built_bins e m) b (length s)) (add_in (cond t (Some 4096) None) n b d.weight s) s ≡ cond (has_room n (built_bins e m) b (length s)) s s
     go false h = refl
     go true h = rw (large_states n (built_bins e m) b (length s) (lt-leb (built_bins e m) 4096 (ltb-true 4096 (built_bins e m) h)))
 
 module _ (value_edges : List Float) (n b : ℕ) (d : Datum) (s : List Float) (v : ℕ) where
   value_number : (r : Reducer) → ((e : BuiltEdges) → r ≡ ComponentSumHistogram e → v ≡ number_in false e value_edges (component_sum d))
-      → consumed_at r (length value_edges) (some v) n b d s ≡ consumed r value_edges n b d s
+      → consumed_at r (length value_edges) (Some v) n b d s ≡ consumed r value_edges n b d s
   unfolding consumed consumed_at
   value_number Comp0Mean h = refl
   value_number ComponentSumMean h = refl
   value_number (ComponentSumHistogram e) h =
       let m = length value_edges in
       let o = index_in e value_edges (component_sum d) in
-      ap (λ (x : ℕ). consumed_at (ComponentSumHistogram e) m (some x) n b d s) (h e refl ∙ index_number e value_edges (component_sum d))
+      ap (λ (x : ℕ). consumed_at (ComponentSumHistogram e) m (Some x) n b d s) (h e refl ∙ index_number e value_edges (component_sum d))
       ∙ histogram_number e m n b d s o
       ∙ (λ i. cond (has_room n (built_bins e m) b (length s)) (add_in ((index_bin e value_edges (component_sum d) ∙ sym (kept_bin value_edges e (component_sum d))) i) n b d.weight s) s)
 
@@ -161,15 +156,15 @@ module _ (setup : Setup) (value_edges : List Float) (x y : Reading) (v : ℕ) (s
   datum = datum_of (op_of setup.op) x y
 
   -- a pair by the number of its bin
-  numbered : (k : ℕ) (o : Option ℕ) → below setup.n_states (some k) ≡ o
+  numbered : (k : ℕ) (o : Option ℕ) → below setup.n_states (Some k) ≡ o
       → ((e : BuiltEdges) → setup.reducer ≡ ComponentSumHistogram e → v ≡ number_in false e value_edges (component_sum datum))
       → pair_placed setup (length value_edges) v (numbered_pair setup x y k) s ≡ pair_added setup value_edges (pair_in o datum) s
   unfolding numbered_pair
   numbered k o e h = ap (λ (p : Option ℕ). pair_placed setup (length value_edges) v (pair_in p datum) s) e ∙ go o
     where
       go : (p : Option ℕ) → pair_placed setup (length value_edges) v (pair_in p datum) s ≡ pair_added setup value_edges (pair_in p datum) s
-      go none = refl
-      go (some i) = value_number value_edges setup.n_states i datum s v setup.reducer h
+      go None = refl
+      go (Some i) = value_number value_edges setup.n_states i datum s v setup.reducer h
 
 -- ---- lists by places
 at_map : {A B : Type 0} (f : A → B) (l : List A) (q : ℕ) (o : A) (z : B) → q < length l → get_or (map f l) q z ≡ f (get_or l q o)
@@ -189,23 +184,12 @@ value_at r e edges f l found q h k =
     ap (λ (y : Reducer). get_or (value_numbers y edges (map f l) found) q 0) k ∙ at_maps f (number_in false e edges) l q 0 nan 0 h
 
 module _ (setup : Setup) (m : ℕ) (x : Reading) (r : ℕ → Reading) (places found value_found : List ℕ) where
-  pub placed_none : (s : List Float) → s ≡ placed_to x r setup m places found value_found 0 s
-  unfolding placed_to
-  placed_none s = refl
-
   pub placed_next : (q : ℕ) (y : Reading) (pair : Pair) (z s u : List Float) → s ≡ placed_to x r setup m places found value_found q z → y ≡ r (get_or places q 0)
       → the_pair pair ≡ numbered_pair setup x y (get_or found q 0) → u ≡ pair_placed setup m (get_or value_found q 0) (the_pair pair) s → u ≡ placed_to x r setup m places found value_found (q + 1) z
   unfolding placed_to
   placed_next q y pair z s u h e p k =
       k ∙ (λ i. pair_placed setup m (get_or value_found q 0) ((p ∙ ap (λ (v : Reading). numbered_pair setup x v (get_or found q 0)) e) i) (h i))
       ∙ ap (λ (n : ℕ). placed_to x r setup m places found value_found n z) (sym (add-one q))
-
-  -- the same with the operation and the kind written out
-  pub placed_by : (o : PairOperation) (k : Reducer) (s u : List Float) → setup.op ≡ o → setup.reducer ≡ k
-      → u ≡ placed_to x r (record { op = o; edges = setup.edges; reducer = k; n_states = setup.n_states }) m places found value_found (length places) s
-      → u ≡ placed_to x r setup m places found value_found (length places) s
-  placed_by o k s u e f h =
-      h ∙ sym (λ i. placed_to x r (record { op = e i; edges = setup.edges; reducer = f i; n_states = setup.n_states }) m places found value_found (length places) s)
 
   module _ (f : ℕ → List Float → List Float) (h : (q : ℕ) → q < length places → (t : List Float)
       → pair_placed setup m (get_or value_found q 0) (numbered_pair setup x (r (get_or places q 0)) (get_or found q 0)) t ≡ f (get_or places q 0) t) where
@@ -222,7 +206,7 @@ module _ (setup : Setup) (m : ℕ) (x : Reading) (r : ℕ → Reading) (places f
 -- ---- rows
 module _ (setup : Setup) (list value_edges : List Float) (a : points.Point) (g : ℕ → points.Point) where
   -- a pair without a bin changes nothing
-  skipped : (b : points.Point) (s : List Float) → none ≡ built_bin setup.edges list (squared_diff_norm a b) → s ≡ pair_step setup list value_edges (a, b) s
+  skipped : (b : points.Point) (s : List Float) → None ≡ built_bin setup.edges list (squared_diff_norm a b) → s ≡ pair_step setup list value_edges (a, b) s
   unfolding pair_step built_pair
   skipped b s h = rw (sym h)
 
@@ -294,11 +278,11 @@ module _ (setup : Setup) (list value_edges : List Float) (a : points.Point) (g :
     number x = number_in true setup.edges list x
 
     -- a listed distance, which is past no end, has its bin's number
-    listed_bin : (q : ℕ) → q < length listed → below setup.n_states (some (number (get_or d (get_or listed q 0) nan))) ≡ built_bin setup.edges list (squared_diff_norm a (g (j + get_or listed q 0)))
+    listed_bin : (q : ℕ) → q < length listed → below setup.n_states (Some (number (get_or d (get_or listed q 0) nan))) ≡ built_bin setup.edges list (squared_diff_norm a (g (j + get_or listed q 0)))
     listed_bin =
-        kept_all (λ e. below setup.n_states (some (number (get_or d e nan))) ≡ built_bin setup.edges list (squared_diff_norm a (g (j + e)))) table.first table.last d m
+        kept_all (λ e. below setup.n_states (Some (number (get_or d e nan))) ≡ built_bin setup.edges list (squared_diff_norm a (g (j + e)))) table.first table.last d m
         (λ e l y z.
-        ap (λ (n : ℕ). below n (some (number (get_or d e nan)))) states ∙ inside_bin setup.edges list table tabled (get_or d e nan) y z ∙ ap (built_bin setup.edges list) (distant e l))
+        ap (λ (n : ℕ). below n (Some (number (get_or d e nan)))) states ∙ inside_bin setup.edges list table tabled (get_or d e nan) y z ∙ ap (built_bin setup.edges list) (distant e l))
 
     pair_placed_law : (q : ℕ) → q < length listed → (t : List Float)
         → pair_placed setup (length value_edges) (get_or (value_numbers setup.reducer value_edges (map value listed) value_found) q 0)
@@ -336,24 +320,31 @@ part_length k l = ap length (part_is k l) ∙ length-drop k l
 part_at : (k : ℕ) (l : List Float) (e : ℕ) → at (part k l) e ≡ at l (k + e)
 part_at k l e = ap (λ (x : List Float). at x e) (part_is k l) ∙ get_or-drop k l e nan
 
--- m points from j on
-module _ (p v w : List Float) (stride j : ℕ) where
-  pub parts_held : (m : ℕ) → Readable p v w (j + m) stride → Parts m (part j v) (part (stride + j) v) (part (2 * stride + j) v) (part j w)
+-- m points of a set from j on
+module _ (set : Points) (j : ℕ) where
+  pub parts_held : (m : ℕ) → j + m ≤ set.n → Parts m (part j set.values.now) (part (set.stride + j) set.values.now) (part (2 * set.stride + j) set.values.now) (part j set.weights.now)
   parts_held m h =
+      let s = set.held in
       record {
-        few = omega (arith, h.few);
-        in0 = omega (arith, h.inside, h.values, part_length j v);
-        in1 = omega (arith, h.inside, h.values, part_length (stride + j) v);
-        in2 = omega (arith, h.inside, h.values, part_length (2 * stride + j) v);
-        in_w = omega (arith, h.weights, part_length j w);
+        few = omega (arith, h, s.few);
+        in0 = omega (arith, h, s.inside, s.values, part_length j set.values.now);
+        in1 = omega (arith, h, s.inside, s.values, part_length (set.stride + j) set.values.now);
+        in2 = omega (arith, h, s.inside, s.values, part_length (2 * set.stride + j) set.values.now);
+        in_w = omega (arith, h, s.weights, part_length j set.weights.now);
       }
 
-  pub parts_read : reading_in (part j v) (part (stride + j) v) (part (2 * stride + j) v) (part j w) ≡ (λ (e : ℕ). (point_in p v w stride (j + e)).rd)
+  pub parts_read : (r : Readings) → r.c0.now ≡ part j set.values.now → r.c1.now ≡ part (set.stride + j) set.values.now → r.c2.now ≡ part (2 * set.stride + j) set.values.now
+      → r.w.now ≡ part j set.weights.now → reading_in r ≡ (λ (e : ℕ). (point_in set (j + e)).rd)
   unfolding reading_in point_in
-  parts_read = λ i e. record { v0 = part_at j v e i; v1 = later stride e i; v2 = later (2 * stride) e i; w = part_at j w e i }
+  parts_read r p0 p1 p2 pw = λ i e. record {
+    v0 = (ap (λ l. at l e) p0 ∙ part_at j set.values.now e) i;
+    v1 = (ap (λ l. at l e) p1 ∙ later set.stride e) i;
+    v2 = (ap (λ l. at l e) p2 ∙ later (2 * set.stride) e) i;
+    w = (ap (λ l. at l e) pw ∙ part_at j set.weights.now e) i;
+  }
     where
-      later : (k e : ℕ) → at (part (k + j) v) e ≡ at v (k + (j + e))
-      later k e = part_at (k + j) v e ∙ ap (at v) (omega arith)
+      later : (k e : ℕ) → at (part (k + j) set.values.now) e ≡ at set.values.now (k + (j + e))
+      later k e = part_at (k + j) set.values.now e ∙ ap (at set.values.now) (omega arith)
 
 -- ---- values
 module _ (x : Reading) (r : ℕ → Reading) (op : PairOperation) where
@@ -399,33 +390,33 @@ places_added_law setup list value_edges hints table x r places d found value_fou
 
 -- ---- a histogram's pairs by their weights
 module _ (e : BuiltEdges) (m n v : ℕ) (x : Datum) (y : Float) (same : x.weight ≡ y) (s : List Float) where
-  weight_alone : (b : ℕ) → consumed_at (ComponentSumHistogram e) m (some v) n b (weight_datum y) s ≡ consumed_at (ComponentSumHistogram e) m (some v) n b x s
+  weight_alone : (b : ℕ) → consumed_at (ComponentSumHistogram e) m (Some v) n b (weight_datum y) s ≡ consumed_at (ComponentSumHistogram e) m (Some v) n b x s
   unfolding consumed_at
-  weight_alone b = λ i. cond (has_room n (built_bins e m) b (length s)) (add_in (below (built_bins e m) (some v)) n b (sym same i) s) s
+  weight_alone b = λ i. cond (has_room n (built_bins e m) b (length s)) (add_in (below (built_bins e m) (Some v)) n b (sym same i) s) s
 
-module _ (setup : Setup) (e : BuiltEdges) (kind : setup.reducer ≡ ComponentSumHistogram e) (m : ℕ) (x : Reading) (c0 c1 c2 w : List Float) (places found value_found : List ℕ) where
-  weight_placed : (n b k : ℕ) (s : List Float) → consumed_at (ComponentSumHistogram e) m (some n) setup.n_states b (weight_datum (mul binary64 x.w (at w k))) s
-      ≡ pair_placed setup m n (numbered_pair setup x (reading_in c0 c1 c2 w k) b) s
+module _ (setup : Setup) (e : BuiltEdges) (kind : setup.reducer ≡ ComponentSumHistogram e) (m : ℕ) (x : Reading) (readings : Readings) (places found value_found : List ℕ) where
+  weight_placed : (n b k : ℕ) (s : List Float) → consumed_at (ComponentSumHistogram e) m (Some n) setup.n_states b (weight_datum (mul binary64 x.w (at readings.w.now k))) s
+      ≡ pair_placed setup m n (numbered_pair setup x (reading_in readings k) b) s
   unfolding numbered_pair reading_in
   weight_placed n b k s = go (ltb b setup.n_states) refl
     where
       y : Datum
-      y = datum_of (op_of setup.op) x (reading_in c0 c1 c2 w k)
+      y = datum_of (op_of setup.op) x (reading_in readings k)
 
-      go : (t : Bool) → ltb b setup.n_states ≡ t → consumed_at (ComponentSumHistogram e) m (some n) setup.n_states b (weight_datum (mul binary64 x.w (at w k))) s
-          ≡ pair_placed setup m n (pair_in (cond t (some b) none) y) s
-      go true h = weight_alone e m setup.n_states n y (mul binary64 x.w (at w k)) refl s b ∙ ap (λ (r : Reducer). consumed_at r m (some n) setup.n_states b y s) (sym kind)
-      go false h = no_room (ComponentSumHistogram e) m (some n) setup.n_states b _ s (past_states setup.n_states (built_bins e m) b (length s) h)
+      go : (t : Bool) → ltb b setup.n_states ≡ t → consumed_at (ComponentSumHistogram e) m (Some n) setup.n_states b (weight_datum (mul binary64 x.w (at readings.w.now k))) s
+          ≡ pair_placed setup m n (pair_in (cond t (Some b) None) y) s
+      go true h = weight_alone e m setup.n_states n y (mul binary64 x.w (at readings.w.now k)) refl s b ∙ ap (λ (r : Reducer). consumed_at r m (Some n) setup.n_states b y s) (sym kind)
+      go false h = no_room (ComponentSumHistogram e) m (Some n) setup.n_states b _ s (past_states setup.n_states (built_bins e m) b (length s) h)
 
-  weights_placed : (q : ℕ) (s : List Float) → weights_to e m setup.n_states x.w w places found value_found q s ≡ placed_to x (reading_in c0 c1 c2 w) setup m places found value_found q s
+  weights_placed : (q : ℕ) (s : List Float) → weights_to e m setup.n_states x.w readings.w.now places found value_found q s ≡ placed_to x (reading_in readings) setup m places found value_found q s
   unfolding weights_to placed_to
   weights_placed zero s = refl
   weights_placed (suc q) s =
-      ap (λ (t : List Float). consumed_at (ComponentSumHistogram e) m (some (get_or value_found q 0)) setup.n_states (get_or found q 0) (weight_datum (mul binary64 x.w (at w (get_or places q 0)))) t) (weights_placed q s)
+      ap (λ (t : List Float). consumed_at (ComponentSumHistogram e) m (Some (get_or value_found q 0)) setup.n_states (get_or found q 0) (weight_datum (mul binary64 x.w (at readings.w.now (get_or places q 0)))) t) (weights_placed q s)
       ∙ weight_placed (get_or value_found q 0) (get_or found q 0) (get_or places q 0) _
 
-  pub by_weights : (s q : List Float) → q ≡ weights_to e m setup.n_states x.w w places found value_found (length places) s
-      → q ≡ placed_to x (reading_in c0 c1 c2 w) setup m places found value_found (length places) s
+  pub by_weights : (s q : List Float) → q ≡ weights_to e m setup.n_states x.w readings.w.now places found value_found (length places) s
+      → q ≡ placed_to x (reading_in readings) setup m places found value_found (length places) s
   by_weights s q h = h ∙ weights_placed (length places) s
 
 module _ (e : BuiltEdges) (m n : ℕ) (w : Float) (weights : List Float) (places found value_found : List ℕ) where
@@ -434,7 +425,7 @@ module _ (e : BuiltEdges) (m n : ℕ) (w : Float) (weights : List Float) (places
   weights_none s = refl
 
   pub weights_next : (q : ℕ) (z s r : List Float) → s ≡ weights_to e m n w weights places found value_found q z
-      → r ≡ consumed_at (ComponentSumHistogram e) m (some (get_or value_found q 0)) n (get_or found q 0) (weight_datum (mul binary64 w (at weights (get_or places q 0)))) s
+      → r ≡ consumed_at (ComponentSumHistogram e) m (Some (get_or value_found q 0)) n (get_or found q 0) (weight_datum (mul binary64 w (at weights (get_or places q 0)))) s
       → r ≡ weights_to e m n w weights places found value_found (q + 1) z
   unfolding weights_to
   weights_next q z s r h k = rw (add-one, ← h) k
@@ -448,26 +439,18 @@ module _ (setup : Setup) (list value_edges : List Float) (a : points.Point) (g :
       (rw (k, e, add-one j)) ∙ sym (row_cons setup list value_edges a g j (n - (j + 1)) s) ∙ sym (ap (λ (x : ℕ). row_added setup list value_edges a g j x s) d) ∙ inv
 
 -- x is the distance, r the answer of `bin_of`
-module _ (setup : Setup) (list : List Float) (a b : points.Point) (table : Table) (tabled : Tabled setup.edges list table) (x : Float) (e : x ≡ squared_diff_norm a b) (r : BinIndex)
-    (h : index_of r ≡ table_bin setup.edges list table x) where
-  one_bin_law : index_of r ≡ built_bin setup.edges list (squared_diff_norm a b)
-  one_bin_law = found_bin setup.edges list table (squared_diff_norm a b) (index_of r) (h ∙ ap (table_bin setup.edges list table) e) tabled (is_true _ (add-fits binary64 _ _))
+module _ (setup : Setup) (list : List Float) (a b : points.Point) (table : Table) (tabled : Tabled setup.edges list table) (x : Float) (e : x ≡ squared_diff_norm a b) (r : Option ℕ)
+    (h : r ≡ table_bin setup.edges list table x) where
+  one_bin_law : r ≡ built_bin setup.edges list (squared_diff_norm a b)
+  one_bin_law = found_bin setup.edges list table (squared_diff_norm a b) r (h ∙ ap (table_bin setup.edges list table) e) tabled (is_true _ (add-fits binary64 _ _))
 
-  pub pair_at_law : (i : ℕ) (d : declared.Datum) → r ≡ At i → the_datum d ≡ datum_of (op_of setup.op) a.rd b.rd → kept i (the_datum d) ≡ built_pair setup list a b
+  pub pair_at_law : (i : ℕ) (d : declared.Datum) → r ≡ Some i → the_datum d ≡ datum_of (op_of setup.op) a.rd b.rd → kept i (the_datum d) ≡ built_pair setup list a b
   unfolding built_pair
   pair_at_law i d t w = rw (← one_bin_law, t, ← w)
 
   pub pair_none : r ≡ None → dropped ≡ built_pair setup list a b
   unfolding built_pair
   pair_none t = rw (← one_bin_law, t)
-
-module _ (setup : Setup) (value_edges : List Float) (pair : Pair) (s : List Float) where
-  pub consume_kept : (i : ℕ) (c0 c1 c2 w : Float) (q : List Float) → pair ≡ Kept i c0 c1 c2 w
-      → q ≡ consumed setup.reducer value_edges setup.n_states i (record { c0 = c0; c1 = c1; c2 = c2; weight = w }) s → q ≡ pair_added setup value_edges (the_pair pair) s
-  consume_kept i c0 c1 c2 w q e h = h ∙ (rw e)
-
-  pub consume_dropped : pair ≡ Dropped → s ≡ pair_added setup value_edges (the_pair pair) s
-  consume_dropped e = rw e
 
 pub one_added : (setup : Setup) (list value_edges : List Float) (a b : points.Point) (pair : Pair) (s q : List Float) → the_pair pair ≡ built_pair setup list a b → q ≡ pair_added setup value_edges (the_pair pair) s
     → q ≡ pair_step setup list value_edges (a, b) s

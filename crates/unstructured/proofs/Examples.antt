@@ -13,9 +13,8 @@ use Rattle.reducer.specs.declared.Reducer.TheVariants.{ComponentSumMean, Compone
 use Rattle.reducer.specs.declared.PairOperation.TheVariants.{ElementwiseMultiply}
 use Rattle.edge_table.proofs.Examples.{edges, table, usable}
 use Rattle.parallel_serial.specs.declared.Setup.{Setup}
-use Rattle.unstructured.specs.declared.Tables.{Tables}
-use Rattle.unstructured.specs.Pairs.{Readable}
-use Rattle.unstructured.specs.Batches.{UsableRun, TabledRun, Rooms, Listed, Parts}
+use Rattle.unstructured.specs.declared.held.Tables.{Tables}
+use Rattle.unstructured.specs.Held.{Readable, UsableRun, TabledRun, Listed, Parts}
 
 abbrev pub setup : Reducer → Setup
 setup reducer = record { op = ElementwiseMultiply; edges = Irregular; reducer = reducer; n_states = length edges - 1 }
@@ -47,9 +46,6 @@ places = 0 ∷ 1 ∷ []
 
 pub parts : Parts 2 pair pair pair pair
 parts = record { few = omega arith; in0 = omega arith; in1 = omega arith; in2 = omega arith; in_w = omega arith }
-
-pub rooms : Rooms 2 pair places places places
-rooms = record { distances = omega arith; listed = omega arith; bins = omega arith; values = omega arith }
 
 pub listed : Listed 2 places
 listed = record { few = omega arith; below = go }

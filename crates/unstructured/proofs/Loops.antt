@@ -1,54 +1,37 @@
 -- Pairs, and the loops over them, turn by turn.
-use mathlib.Core.Path.{◌≡◌, refl, sym, ap, ◌∙◌}
-use mathlib.Core.Option.{some}
-use mathlib.Core.Bool.{Bool, true, false}
-use mathlib.Core.List.{List, map}
+use mathlib.Core.Path.{◌≡◌, refl, sym, ap, subst, ◌∙◌}
+use mathlib.Core.List.{List}
 use Prim.Native.Nat.{ℕ, zero, suc, ◌+◌, ◌-◌, ◌<◌, ◌≤◌}
 use native.Mathlib.Nat.{sub-zero}
 use native.Mathlib.Numerals.{add-one}
 use native.Mathlib.Omega.{arith}
 use lib.Ieee.{Float}
-use Rattle.definitions.specs.Lists.{upto}
-use Rattle.definitions.specs.Bins.{below}
+use borrow.Author.Tests.{lt-ltb, le-ltb}
 use Rattle.definitions.specs.Points as points
-use Rattle.definitions.specs.Points.{UnstructuredPoints, point_at}
+use Rattle.definitions.specs.Points.{Reading}
 use Rattle.definitions.specs.Reducer as definitions
 use Rattle.definitions.specs.Reducer.{datum_of}
 use Rattle.laws.proofs.Places.{row_left, cross_left, auto_left, row_is, cross_is, auto_is}
-use Rattle.bins.specs.declared.BinIndex.{BinIndex}
-use Rattle.bins.specs.declared.BinIndex.TheVariants.{At, None}
-use Rattle.bins.specs.Answers.{index_of}
-use Rattle.reducer.specs.declared.Datum.{Datum}
-use Rattle.reducer.specs.Readings.{op_of, the_datum, reading_of}
-use Rattle.reducer.specs.Consume.{consumed_at}
-use Rattle.unstructured.specs.declared.Pair.{Pair}
-use Rattle.unstructured.specs.declared.Pair.TheVariants.{Kept, Dropped}
+use Rattle.reducer.specs.Readings.{op_of}
 use Rattle.parallel_serial.specs.declared.Setup.{Setup}
-use Rattle.unstructured.specs.Pairs.{the_pair, first_partner, pair_step, row_added, filled}
-use Rattle.unstructured.specs.Batches.{numbered_pair, pair_placed}
+use Rattle.unstructured.specs.declared.held.Points.{Points}
+use Rattle.unstructured.specs.declared.held.Pairing.{Pairing}
+use Rattle.unstructured.specs.declared.held.Pairing.TheVariants.{Auto, Cross}
+use Rattle.unstructured.specs.declared.held.Run.{Run}
+use Rattle.unstructured.specs.Pairs.{point_in, points_in, first_set, second_set, first_partner, pair_step, row_added, filled, run_row, run_filled}
+use Rattle.unstructured.specs.Batches.{numbered_pair}
 
 -- ---- one pair
-module _ (setup : Setup) (a b : Datum) (n : ℕ) (r : BinIndex) (h : index_of r ≡ below setup.n_states (some n)) where
-  pub pair_kept : (i : ℕ) (d : Datum) → r ≡ At i → the_datum d ≡ datum_of (op_of setup.op) (reading_of a) (reading_of b)
-      → definitions.kept i (the_datum d) ≡ numbered_pair setup (reading_of a) (reading_of b) n
+module _ (setup : Setup) (x y : Reading) (n : ℕ) where
+  pub pair_kept : n < setup.n_states → (d : definitions.Datum) → d ≡ datum_of (op_of setup.op) x y → definitions.kept n d ≡ numbered_pair setup x y n
   unfolding numbered_pair
-  pair_kept i d t e = rw (← h, t, ← e)
+  pair_kept h d e = rw (lt-ltb n setup.n_states h, e)
 
-  pub pair_dropped : r ≡ None → definitions.dropped ≡ numbered_pair setup (reading_of a) (reading_of b) n
+  pub pair_dropped : setup.n_states ≤ n → definitions.dropped ≡ numbered_pair setup x y n
   unfolding numbered_pair
-  pair_dropped t = rw (← h, t)
-
-pub add_kept : (setup : Setup) (m n : ℕ) (pair : Pair) (i : ℕ) (c0 c1 c2 w : Float) (s q : List Float) → pair ≡ Kept i c0 c1 c2 w
-    → q ≡ consumed_at setup.reducer m (some n) setup.n_states i (record { c0 = c0; c1 = c1; c2 = c2; weight = w }) s → q ≡ pair_placed setup m n (the_pair pair) s
-add_kept setup m n pair i c0 c1 c2 w s q e h = h ∙ (rw e)
-
-pub add_dropped : (setup : Setup) (m n : ℕ) (pair : Pair) (s : List Float) → pair ≡ Dropped → s ≡ pair_placed setup m n (the_pair pair) s
-add_dropped setup m n pair s e = rw e
+  pair_dropped h = rw (le-ltb n setup.n_states h)
 
 -- ---- one row
-pub partner_auto : (auto : Bool) (i : ℕ) → auto ≡ true → i + 1 ≡ first_partner auto i
-partner_auto auto i t = rw t
-
 module _ (setup : Setup) (list value_edges : List Float) where
   module _ (a : points.Point) (g : ℕ → points.Point) (n : ℕ) (z : List Float) where
     pub row_done : (j : ℕ) (s : List Float) → n ≤ j → row_added setup list value_edges a g j (n - j) s ≡ z → s ≡ z
@@ -57,21 +40,21 @@ module _ (setup : Setup) (list value_edges : List Float) where
         let m : n - j ≡ 0 = omega arith in
         rw m at inv
 
--- ---- all rows: what is left of the loop, from first point i on for n turns; the second set has m points
-module _ (setup : Setup) (list value_edges : List Float) (auto : Bool) (g h : ℕ → points.Point) (m : ℕ) where
+-- ---- all rows: what is left of the loop, from first point i on for n turns; the row of i starts at start i, and the second set has m points
+module _ (setup : Setup) (list value_edges : List Float) (start : ℕ → ℕ) (g h : ℕ → points.Point) (m : ℕ) where
   unfoldable pub fill_left : ℕ → ℕ → List Float → List Float
   fill_left i zero s = s
-  fill_left i (suc n) s = fill_left (suc i) n (row_added setup list value_edges (g i) h (first_partner auto i) (m - first_partner auto i) s)
+  fill_left i (suc n) s = fill_left (suc i) n (row_added setup list value_edges (g i) h (start i) (m - start i) s)
 
   module _ (n : ℕ) (z : List Float) where
-    pub fill_turn : (i : ℕ) (a : points.Point) (from : ℕ) (s q : List Float) → i < n → a ≡ g i → from ≡ first_partner auto i → q ≡ row_added setup list value_edges a h from (m - from) s
+    fill_turn : (i : ℕ) (a : points.Point) (from : ℕ) (s q : List Float) → i < n → a ≡ g i → from ≡ start i → q ≡ row_added setup list value_edges a h from (m - from) s
         → fill_left i (n - i) s ≡ z → fill_left (i + 1) (n - (i + 1)) q ≡ z
     unfolding fill_left
     fill_turn i a from s q l e f k inv =
         let d : n - i ≡ suc (n - (i + 1)) = omega arith in
         (rw (add-one i, k, e, f)) ∙ (rw (d, add-one i) at inv)
 
-    pub fill_done : (i : ℕ) (s : List Float) → n ≤ i → fill_left i (n - i) s ≡ z → s ≡ z
+    fill_done : (i : ℕ) (s : List Float) → n ≤ i → fill_left i (n - i) s ≡ z → s ≡ z
     unfolding fill_left
     fill_done i s l inv =
         let d : n - i ≡ 0 = omega arith in
@@ -82,14 +65,14 @@ module _ (setup : Setup) (list value_edges : List Float) where
   unfolding row_added
   row_left_law g h i k n s = sym (row_is (pair_step setup list value_edges) g h i k n s)
 
-  cross_left_law : (g h : ℕ → points.Point) (m i n : ℕ) (s : List Float) → fill_left setup list value_edges false g h m i n s ≡ cross_left (pair_step setup list value_edges) g h i n m s
+  cross_left_law : (g h : ℕ → points.Point) (m i n : ℕ) (s : List Float) → fill_left setup list value_edges (λ _. 0) g h m i n s ≡ cross_left (pair_step setup list value_edges) g h i n m s
   unfolding fill_left
   cross_left_law g h m i zero s = refl
   cross_left_law g h m i (suc n) s =
       cross_left_law g h m (suc i) n _
       ∙ ap (cross_left (pair_step setup list value_edges) g h (suc i) n m) (ap (λ (k : ℕ). row_added setup list value_edges (g i) h 0 k s) (sub-zero m) ∙ row_left_law g h i 0 m s)
 
-  auto_left_law : (g : ℕ → points.Point) (m i n : ℕ) (s : List Float) → m ≡ i + n → fill_left setup list value_edges true g g m i n s ≡ auto_left (pair_step setup list value_edges) g i n s
+  auto_left_law : (g : ℕ → points.Point) (m i n : ℕ) (s : List Float) → m ≡ i + n → fill_left setup list value_edges (λ k. k + 1) g g m i n s ≡ auto_left (pair_step setup list value_edges) g i n s
   unfolding fill_left
   auto_left_law g m i zero s e = refl
   auto_left_law g m i (suc n) s e =
@@ -97,10 +80,32 @@ module _ (setup : Setup) (list value_edges : List Float) where
       auto_left_law g m (suc i) n _ (omega arith)
       ∙ ap (auto_left (pair_step setup list value_edges) g (suc i) n) ((rw (k, add-one i)) ∙ row_left_law g g i (suc i) n s)
 
-  pub fill_starts : (auto : Bool) (g h : ℕ → points.Point) (n m : ℕ) (s : List Float) → (auto ≡ true → (g ≡ h) × (n ≡ m))
-      → fill_left setup list value_edges auto g h m 0 (n - 0) s ≡ filled setup list value_edges auto (map g (upto n)) (map h (upto m)) s
-  unfolding filled
-  fill_starts false g h n m s same = (rw (sub-zero n)) ∙ cross_left_law g h m 0 n s ∙ cross_is (pair_step setup list value_edges) g h 0 n m s
-  fill_starts true g h n m s same =
-      let e = same refl in
-      (rw (sub-zero n, ← e.0, ← e.1)) ∙ auto_left_law g n 0 n s (omega arith) ∙ auto_is (pair_step setup list value_edges) g 0 n s
+-- ---- the same of a run and its sets
+module _ (run : Run) (sets : Pairing) where
+  -- from first point i on
+  abbrev pub rows_left : ℕ → List Float → List Float
+  rows_left i s = fill_left run.setup run.list.now run.value_edges.now (first_partner sets) (point_in (first_set sets)) (point_in (second_set sets)) (second_set sets).n i ((first_set sets).n - i) s
+
+  pub rows_start : (s : List Float) → rows_left 0 s ≡ run_filled run sets s
+  unfolding filled points_in
+  rows_start s = go sets
+    where
+      go : (t : Pairing)
+          → fill_left run.setup run.list.now run.value_edges.now (first_partner t) (point_in (first_set t)) (point_in (second_set t)) (second_set t).n 0 ((first_set t).n - 0) s
+          ≡ run_filled run t s
+      go (Auto a) = (rw (sub-zero a.n)) ∙ auto_left_law run.setup run.list.now run.value_edges.now (point_in a) a.n 0 a.n s (omega arith)
+          ∙ auto_is (pair_step run.setup run.list.now run.value_edges.now) (point_in a) 0 a.n s
+      go (Cross a b) = (rw (sub-zero a.n)) ∙ cross_left_law run.setup run.list.now run.value_edges.now (point_in a) (point_in b) b.n 0 a.n s
+          ∙ cross_is (pair_step run.setup run.list.now run.value_edges.now) (point_in a) (point_in b) 0 a.n b.n s
+
+  -- first and second are what calls answered
+  pub rows_turn : (first second : Points) (z : List Float) (i : ℕ) (a : points.Point) (from : ℕ) (s q : List Float) → first ≡ first_set sets → second ≡ second_set sets → i < first.n
+      → a ≡ point_in first i → from ≡ first_partner sets i → q ≡ run_row run a second from (second.n - from) s → rows_left i s ≡ z → rows_left (i + 1) q ≡ z
+  rows_turn first second z i a from s q e f l p r h inv =
+      fill_turn run.setup run.list.now run.value_edges.now (first_partner sets) (point_in (first_set sets)) (point_in (second_set sets)) (second_set sets).n (first_set sets).n z i a from s q
+      (subst (λ (x : Points). i < x.n) e l) (p ∙ ap (λ (x : Points). point_in x i) e) r (h ∙ ap (λ (x : Points). run_row run a x from (x.n - from) s) f) inv
+
+  pub rows_done : (first : Points) (z : List Float) (i : ℕ) (s : List Float) → first ≡ first_set sets → first.n ≤ i → rows_left i s ≡ z → s ≡ z
+  rows_done first z i s e l inv =
+      fill_done run.setup run.list.now run.value_edges.now (first_partner sets) (point_in (first_set sets)) (point_in (second_set sets)) (second_set sets).n (first_set sets).n z i s
+      (subst (λ (x : Points). x.n ≤ i) e l) inv

@@ -1,5 +1,5 @@
 -- Sets of points that are not refused hold what the loops read.
-use mathlib.Core.Path.{◌≡◌, refl, ap, subst, ◌∙◌}
+use mathlib.Core.Path.{◌≡◌, refl, ap, ◌∙◌}
 use mathlib.Core.Bool.{Bool, true, false, not, ◌&&◌, ◌||◌, true≢false}
 use mathlib.Core.List.{◌++◌}
 use Prim.Native.Nat.{ℕ, ◌*◌, ◌/◌, ◌%◌}
@@ -12,8 +12,11 @@ use borrow.Author.Tests.{ltb-false, eqb-true}
 use Rattle.definitions.specs.Points.{UnstructuredPoints, stride}
 use Rattle.definitions.specs.Rules.{refusal, over_points, over_sets, point_rules, set_rules}
 use Rattle.laws.proofs.Refusals.{none_broken_law, none_refused, broken_left, broken_right}
-use Rattle.unstructured_points.specs.Sets.{sets_for}
-use Rattle.unstructured.specs.Pairs.{Held}
+use Rattle.unstructured_points.specs.declared.Sets.{Sets}
+use Rattle.unstructured_points.specs.declared.Sets.TheVariants.{Auto, Cross}
+use Rattle.unstructured_points.specs.Readings.{points_of}
+use Rattle.unstructured_points.specs.Sets.{sets_of}
+use Rattle.unstructured.specs.Pairs.{Held, HeldSets}
 
 either : (a b : Bool) → (a || b) ≡ false → (a ≡ false) × (b ≡ false)
 either true b h = absurd (true≢false h)
@@ -49,9 +52,11 @@ held s o h =
       weights = omega (arith, w.0);
     }
 
-pub held_sets : (auto : Bool) (a b : UnstructuredPoints) → (auto ≡ true → a ≡ b) → over_sets (sets_for auto a b) ≡ false → refusal (set_rules (sets_for auto a b)) ≡ 0 → Held a × Held b
-held_sets true a b same o h = (held a o h, subst Held (same refl) (held a o h))
-held_sets false a b same o h =
-    let l = either (over_points a) (over_points b) o in
-    let m = none_broken_law (point_rules a ++ point_rules b) tt (eq→eqb h) in
-    (held a l.0 (none_refused (point_rules a) (broken_left (point_rules a) (point_rules b) m)), held b l.1 (none_refused (point_rules b) (broken_right (point_rules a) (point_rules b) m)))
+pub held_sets : (sets : Sets) → over_sets (sets_of sets) ≡ false → refusal (set_rules (sets_of sets)) ≡ 0 → HeldSets sets
+held_sets (Auto a) o h = held (points_of a) o h
+held_sets (Cross a b) o h =
+    let p = points_of a in
+    let q = points_of b in
+    let l = either (over_points p) (over_points q) o in
+    let m = none_broken_law (point_rules p ++ point_rules q) tt (eq→eqb h) in
+    (held p l.0 (none_refused (point_rules p) (broken_left (point_rules p) (point_rules q) m)), held q l.1 (none_refused (point_rules q) (broken_right (point_rules p) (point_rules q) m)))

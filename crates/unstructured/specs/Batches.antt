@@ -1,6 +1,6 @@
--- What the rows in batches promise and ask: lookups by tables, the places of a batch that are not outside the ends.
-use Rattle.std.specs.Prelude.{◌≡◌, List, [], ◌∷◌, ◌++◌, map, true, false, ℕ, zero, suc, ◌<◌, ◌≤◌, length, get_or, Float}
-use Rattle.std.proofs.Math.Option.{some}
+-- What the rows in batches promise: lookups by tables, the places of a batch that are not outside the ends.
+use Rattle.std.specs.Prelude.{List, [], ◌∷◌, ◌++◌, map, true, false, ℕ, zero, suc, length, get_or, Float}
+use Rattle.std.specs.Prelude.{Some}
 use Rattle.std.specs.Float.{binary64, nan}
 use Rattle.std.specs.Float.Ieee.{mul, of_bits}
 use Rattle.definitions.specs.Lists.{at}
@@ -13,31 +13,13 @@ use Rattle.reducer.specs.declared.PairOperation.{PairOperation}
 use Rattle.reducer.specs.declared.Reducer as declared
 use Rattle.reducer.specs.declared.Reducer.TheVariants.{Comp0Mean, ComponentSumMean, ComponentSumHistogram}
 use Rattle.reducer.specs.Readings.{op_of}
-use Rattle.reducer.specs.Consume.{built_bins, consumed_at}
+use Rattle.reducer.specs.Consume.{consumed_at}
 use Rattle.edge_table.specs.Table.{flag_of}
 use Rattle.edge_batch.specs.Batch.{number_in}
-use Rattle.edge_table.specs.Tabled.{Usable, UsableValues, Tabled, TabledValues}
 use Rattle.parallel_serial.specs.declared.Setup.{Setup}
-use Rattle.unstructured.specs.declared.Tables.{Tables}
-
--- the run's edges and value edges can be looked up by tables, and each bin has a state
-pub record UsableRun (setup : Setup) (list value_edges : List Float) : Type 0 where
-  pub edges : Usable setup.edges list
-  pub values : UsableValues setup.reducer value_edges
-  pub states : setup.n_states ≡ built_bins setup.edges (length list)
-
--- these are their tables
-pub record TabledRun (setup : Setup) (list value_edges : List Float) (tables : Tables) : Type 0 where
-  pub edges : Tabled setup.edges list tables.edges
-  pub values : TabledValues setup.reducer value_edges tables.values
-  pub states : setup.n_states ≡ built_bins setup.edges (length list)
-
--- a batch of m points has room in each slice
-pub record Rooms (m : ℕ) (d : List Float) (places found value_found : List ℕ) : Type 0 where
-  pub distances : m ≤ length d
-  pub listed : m ≤ length places
-  pub bins : m ≤ length found
-  pub values : m ≤ length value_found
+use Rattle.unstructured.specs.declared.held.Run.{Run}
+use Rattle.unstructured.specs.declared.held.Readings.{Readings}
+use Rattle.unstructured.specs.declared.held.Found.{Found}
 
 -- ---- the places of a batch
 abbrev pub also : {A : Type 0} → ℕ → List A → A → List A
@@ -53,30 +35,17 @@ kept_below first last d (suc e) = also (flag_of first last (get_or d e nan)) (ke
 unfoldable pub picked : List Float → List ℕ → List Float
 picked d places = map (λ e. get_or d e nan) places
 
--- each is one of m
-pub record Listed (m : ℕ) (places : List ℕ) : Type 0 where
-  pub few : length places ≤ m
-  pub below : (q : ℕ) → q < length places → get_or places q 0 < m
-
--- ---- the readings of a batch, in a part of a slice for each component and one of the weights
-unfoldable pub reading_in : List Float → List Float → List Float → List Float → ℕ → Reading
-reading_in c0 c1 c2 w e = record { v0 = at c0 e; v1 = at c1 e; v2 = at c2 e; w = at w e }
-
--- m are in the parts
-pub record Parts (m : ℕ) (c0 c1 c2 w : List Float) : Type 0 where
-  pub few : m ≤ 4096
-  pub in0 : m ≤ length c0
-  pub in1 : m ≤ length c1
-  pub in2 : m ≤ length c2
-  pub in_w : m ≤ length w
+-- ---- the reading at a place of a batch
+unfoldable pub reading_in : Readings → ℕ → Reading
+reading_in r e = record { v0 = at r.c0.now e; v1 = at r.c1.now e; v2 = at r.c2.now e; w = at r.w.now e }
 
 -- ---- pairs by the numbers of their bins, which are past the bins where there is none
 unfoldable pub numbered_pair : Setup → Reading → Reading → ℕ → Reducer.Pair
-numbered_pair setup x y number = pair_in (below setup.n_states (some number)) (datum_of (op_of setup.op) x y)
+numbered_pair setup x y number = pair_in (below setup.n_states (Some number)) (datum_of (op_of setup.op) x y)
 
 -- m is the length of the value edges, number that of the value's bin
 abbrev pub pair_placed : Setup → ℕ → ℕ → Reducer.Pair → List Float → List Float
-pair_placed setup m number (kept b d) s = consumed_at setup.reducer m (some number) setup.n_states b d s
+pair_placed setup m number (kept b d) s = consumed_at setup.reducer m (Some number) setup.n_states b d s
 pair_placed setup m number dropped s = s
 
 -- ---- a point whose reading is x is paired with places of a batch; r is the reading at a place
@@ -105,7 +74,7 @@ weight_datum w = record { c0 = of_bits binary64 0; c1 = of_bits binary64 0; c2 =
 unfoldable pub weights_to : BuiltEdges → ℕ → ℕ → Float → List Float → List ℕ → List ℕ → List ℕ → ℕ → List Float → List Float
 weights_to e m n w weights places found value_found zero s = s
 weights_to e m n w weights places found value_found (suc q) s =
-    consumed_at (ComponentSumHistogram e) m (some (get_or value_found q 0)) n (get_or found q 0) (weight_datum (mul binary64 w (at weights (get_or places q 0))))
+    consumed_at (ComponentSumHistogram e) m (Some (get_or value_found q 0)) n (get_or found q 0) (weight_datum (mul binary64 w (at weights (get_or places q 0))))
     (weights_to e m n w weights places found value_found q s)
 
 -- the pairs with places of a batch, whose distances are d and past no end
@@ -113,3 +82,17 @@ unfoldable pub places_added : Setup → List Float → List Float → Reading �
 places_added setup list value_edges x r places d value_found s =
     placed_to x r setup (length value_edges) places (map (number_in true setup.edges list) d)
     (value_numbers setup.reducer value_edges (pair_values x r setup.op places) value_found) (length places) s
+
+-- ---- the same of the structs that the code hands on; x is the first point's reading
+abbrev pub values_in : Reading → Readings → PairOperation → List Float
+values_in x r op = pair_values x (reading_in r) op r.places.now
+
+-- all listed pairs, whose bins are found
+abbrev pub found_added : Setup → ℕ → Reading → Found → List Float → List Float
+found_added setup m x f s = placed_to x (reading_in f.readings) setup m f.readings.places.now f.bins.now f.values.now (length f.readings.places.now) s
+
+abbrev pub weights_added : BuiltEdges → ℕ → ℕ → Float → Found → List Float → List Float
+weights_added e m n w f s = weights_to e m n w f.readings.w.now f.readings.places.now f.bins.now f.values.now (length f.readings.places.now) s
+
+abbrev pub listed_added : Run → Reading → Readings → List Float → List ℕ → List Float → List Float
+listed_added run x r d value_found s = places_added run.setup run.list.now run.value_edges.now x (reading_in r) r.places.now d value_found s

@@ -1,3 +1,4 @@
 pub mod Readings
+pub mod Held
 pub mod Pairs
 pub mod Batches

@@ -1,8 +1,10 @@
 -- The sets of a run over points.
-use Rattle.std.specs.Prelude.{Bool, true, false}
-use Rattle.definitions.specs.Points.{UnstructuredPoints}
-use Rattle.definitions.specs.Run.{Sets, one_points, two_points}
+use Rattle.definitions.specs.Run as run
+use Rattle.definitions.specs.Run.{one_points, two_points}
+use Rattle.unstructured_points.specs.declared.Sets.{Sets}
+use Rattle.unstructured_points.specs.declared.Sets.TheVariants.{Auto, Cross}
+use Rattle.unstructured_points.specs.Readings.{points_of}
 
-abbrev pub sets_for : Bool → UnstructuredPoints → UnstructuredPoints → Sets
-sets_for true a b = one_points a
-sets_for false a b = two_points a b
+abbrev pub sets_of : Sets → run.Sets
+sets_of (Auto a) = one_points (points_of a)
+sets_of (Cross a b) = two_points (points_of a) (points_of b)

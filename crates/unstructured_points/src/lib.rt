@@ -1,28 +1,34 @@
 // Sets of unstructured points: their stride, their refusals before a run, the distance of two points.
 #![tactic(auto)]
 
-ghost use Rattle.std.specs.Prelude.{◌≡◌, []};
+ghost use Rattle.std.specs.Prelude.{◌≡◌};
 ghost use Rattle.definitions.specs.Points.{stride_or, squared_diff_norm};
 ghost use Rattle.definitions.specs.Rules.{refusal, over_points, point_rules, over_sets, set_rules};
+ghost use Rattle.refusals.specs.Numbers.{number_of};
 ghost use Rattle.reducer.specs.Readings.{edges_of, kind_of};
 ghost use Rattle.parallel_serial.specs.Drive.{sets_number};
-ghost use Rattle.unstructured_points.specs.Readings.{stride_of, points_of, the_point};
-ghost use Rattle.unstructured_points.specs.Sets.{sets_for};
+ghost use Rattle.unstructured_points.specs.Readings.{points_of, the_point};
+ghost use Rattle.unstructured_points.specs.Sets.{sets_of};
 
 use parallel_serial::Shape;
 use reducer::{Datum, Edges, Kind};
+use refusals::Refusal;
 
-// The stride of positions and values; left out it is the number of points.
+// The stride of positions and values may be left out: it is then the number of points.
 #[derive(Clone, Copy)]
-pub enum Stride {
-    Given(usize),
-    Omitted,
+pub struct PointSet<'a> {
+    pub positions: &'a [f64],
+    pub values: &'a [f64],
+    pub weights: &'a [f64],
+    pub n_points: usize,
+    pub stride: Option<usize>,
 }
 
+// The sets of a run: in auto each point is paired with the later ones of its set.
 #[derive(Clone, Copy)]
-pub struct PointSet {
-    pub n_points: usize,
-    pub stride: Stride,
+pub enum Sets<'a> {
+    Auto(PointSet<'a>),
+    Cross(PointSet<'a>, PointSet<'a>),
 }
 
 #[derive(Clone, Copy)]
@@ -35,123 +41,98 @@ pub struct Point {
 
 // ---- refusals
 
-pub fn stride_of(set: PointSet) -> usize
-    ensures { result ≡ stride_or set.n_points (stride_of set.stride) }
-{
-    let stride = set.stride;
-    match stride {
-        Stride::Given(k) => k,
-        Stride::Omitted => set.n_points,
+impl PointSet<'_> {
+    pub fn stride_of(self) -> usize
+        ensures { result ≡ stride_or self.entry.n_points self.entry.stride }
+    {
+        self.stride.unwrap_or(self.n_points)
+    }
+
+    fn points_over(self) -> bool
+        ensures { result ≡ over_points (points_of self.entry) }
+    {
+        if self.n_points > 4096 {
+            return true;
+        }
+        self.stride_of() > 8192
+    }
+
+    fn points_refusal(self) -> Result<(), Refusal>
+        ensures { number_of result ≡ refusal (point_rules (points_of self.entry)) }
+    {
+        let stride = self.stride_of();
+        if self.n_points == 0 {
+            return Err(Refusal::NoPoints);
+        }
+        if self.n_points > stride {
+            return Err(Refusal::StrideBelowPoints);
+        }
+        if self.values.len() != self.positions.len() {
+            return Err(Refusal::ValuesLength);
+        }
+        if self.positions.len() % stride != 0 {
+            return Err(Refusal::PositionsLength);
+        }
+        if self.positions.len() / stride != 3 {
+            return Err(Refusal::NotThreeComponents);
+        }
+        if self.weights.len() != self.n_points {
+            return Err(Refusal::WeightsLength);
+        }
+        Ok(())
     }
 }
 
-fn points_over(set: PointSet) -> bool
-    ensures { result ≡ over_points (points_of set [] [] []) }
-{
-    if set.n_points > 4096 {
-        return true;
-    }
-    stride_of(set) > 8192
-}
+// ---- of a run's sets, a before b
 
-fn points_refusal(positions: &[f64], values: &[f64], weights: &[f64], set: PointSet) -> u32
-    ensures { result ≡ refusal (point_rules (points_of set positions.now values.now weights.now)) }
-{
-    let stride = stride_of(set);
-    if set.n_points == 0 {
-        return 1;
+impl Sets<'_> {
+    fn sets_over(self) -> bool
+        ensures { result ≡ over_sets (sets_of self.entry) }
+    {
+        match self {
+            Sets::Auto(a) => a.points_over(),
+            Sets::Cross(a, b) => a.points_over() || b.points_over(),
+        }
     }
-    if set.n_points > stride {
-        return 2;
-    }
-    if values.len() != positions.len() {
-        return 3;
-    }
-    if positions.len() % stride != 0 {
-        return 4;
-    }
-    if positions.len() / stride != 3 {
-        return 5;
-    }
-    if weights.len() != set.n_points {
-        return 6;
-    }
-    0
-}
 
-// ---- of a run's sets, a before b; in auto the two are one
-
-fn sets_over(auto: bool, a: PointSet, b: PointSet) -> bool
-    ensures { result ≡ over_sets (sets_for auto (points_of a [] [] []) (points_of b [] [] [])) }
-{
-    if points_over(a) {
-        return true;
+    fn sets_refusal(self) -> Result<(), Refusal>
+        ensures { number_of result ≡ refusal (set_rules (sets_of self.entry)) }
+    {
+        match self {
+            Sets::Auto(a) => a.points_refusal(),
+            Sets::Cross(a, b) => {
+                a.points_refusal()?;
+                b.points_refusal()
+            }
+        }
     }
-    if auto {
-        return false;
-    }
-    points_over(b)
-}
-
-fn sets_refusal(
-    auto: bool,
-    a_positions: &[f64],
-    a_values: &[f64],
-    a_weights: &[f64],
-    a: PointSet,
-    b_positions: &[f64],
-    b_values: &[f64],
-    b_weights: &[f64],
-    b: PointSet,
-) -> u32
-    ensures { result ≡ refusal (set_rules (sets_for auto (points_of a a_positions.now a_values.now a_weights.now)
-        (points_of b b_positions.now b_values.now b_weights.now))) }
-{
-    let number = points_refusal(a_positions, a_values, a_weights, a);
-    if number != 0 {
-        return number;
-    }
-    if auto {
-        return 0;
-    }
-    points_refusal(b_positions, b_values, b_weights, b)
 }
 
 // The first broken rule of a run.
 pub fn run_refusal(
-    auto: bool,
-    a_positions: &[f64],
-    a_values: &[f64],
-    a_weights: &[f64],
-    a: PointSet,
-    b_positions: &[f64],
-    b_values: &[f64],
-    b_weights: &[f64],
-    b: PointSet,
+    sets: Sets,
     edges: Edges,
     list: &[f64],
     kind: Kind,
     value_edges: &[f64],
     shape: Shape,
     len: usize,
-) -> u32
-    ensures { result ≡ sets_number (sets_for auto (points_of a a_positions.now a_values.now a_weights.now)
-        (points_of b b_positions.now b_values.now b_weights.now))
-        (edges_of edges list.now) (kind_of kind value_edges.now) shape len }
+) -> Result<(), Refusal>
+    ensures { number_of result ≡ sets_number (sets_of sets.entry) (edges_of edges list.now) (kind_of kind value_edges.now) shape len }
 {
-    let over = sets_over(auto, a, b);
-    let number = sets_refusal(
-        auto,
-        a_positions,
-        a_values,
-        a_weights,
-        a,
-        b_positions,
-        b_values,
-        b_weights,
-        b,
-    );
-    run_refusals::run_refusal(over, number, 0, edges, list, kind, value_edges, shape, len)
+    let over = sets.sets_over();
+    let own = sets.sets_refusal();
+    run_refusals::run_refusal(
+        over,
+        own,
+        Ok(()),
+        edges,
+        list,
+        kind,
+        value_edges,
+        shape,
+        len,
+    )
 }
 
 // ---- two points

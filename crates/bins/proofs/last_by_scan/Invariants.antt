@@ -1,11 +1,7 @@
 use mathlib.Core.Path.{◌≡◌}
-use Prim.Native.Nat.{◌≤◌}
 use lib.ListN.{length}
 use Rattle.definitions.specs.Bins.{last_edge}
 use Rattle.bins.proofs.last_by_scan.Given as goal
 
 abbrev pub invariant-loop-i : goal.invariant-loop-i
-invariant-loop-i l = (l.i ≤ length l.edges) × (last_edge l.edges l.value l.i ≡ last_edge l.edges l.value (length l.edges))
-
-abbrev pub decreases-loop-i : goal.decreases-loop-i
-decreases-loop-i l = l.i
+invariant-loop-i l = last_edge l.edges l.value l.i ≡ last_edge l.edges l.value (length l.edges)

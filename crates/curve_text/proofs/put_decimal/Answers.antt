@@ -1,5 +1,4 @@
 use native.Mathlib.Omega.{arith}
-use lib.ListN.{length-set}
 use Rattle.curve_text.proofs.Lines.{put_1, put_2, put_3, past_1, past_2, past_3}
 use Rattle.curve_text.proofs.put_decimal.Goals as goal
 
@@ -9,20 +8,11 @@ returns-then-n-lt10-clause-value c = (search past_1, omega arith)
 pub returns-then-n-lt10-clause-out_after : goal.returns-then-n-lt10-clause-out_after
 returns-then-n-lt10-clause-out_after c = search put_1
 
-pub bounds-out-k-then-n-lt100-2 : goal.bounds-out-k-then-n-lt100-2
-bounds-out-k-then-n-lt100-2 c = simp length-set (omega arith)
-
 pub returns-then-n-lt100-clause-value : goal.returns-then-n-lt100-clause-value
 returns-then-n-lt100-clause-value c = (search past_2, omega arith)
 
 pub returns-then-n-lt100-clause-out_after : goal.returns-then-n-lt100-clause-out_after
 returns-then-n-lt100-clause-out_after c = search put_2
-
-pub bounds-out-k-3 : goal.bounds-out-k-3
-bounds-out-k-3 c = simp length-set (omega arith)
-
-pub bounds-out-k-4 : goal.bounds-out-k-4
-bounds-out-k-4 c = simp length-set (omega arith)
 
 pub returns-clause-value : goal.returns-clause-value
 returns-clause-value c = (search past_3, omega arith)

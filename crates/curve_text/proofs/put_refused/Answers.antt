@@ -1,4 +1,6 @@
-use Rattle.curve_text.proofs.Lines.{refused_stored, refused_length}
+use mathlib.Core.Path.{refl}
+use native.Mathlib.Omega.{arith}
+use Rattle.curve_text.proofs.Lines.{refused_put, refused_length}
 use borrow.Author.Rules.{rules}
 use Rattle.curve_text.proofs.put_refused.Goals as goal
 
@@ -6,4 +8,4 @@ pub returns-clause-value : goal.returns-clause-value
 returns-clause-value c = (search refused_length, search rules)
 
 pub returns-clause-out_after : goal.returns-clause-out_after
-returns-clause-out_after c = search refused_stored
+returns-clause-out_after c = refused_put c.args.n _ c.args.out.now _ _ c.requires.1 c.copy_from_slice.ensures.after (omega arith) refl c.put_number.ensures.out_after

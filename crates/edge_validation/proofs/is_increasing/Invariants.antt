@@ -1,12 +1,9 @@
 use mathlib.Core.Path.{◌≡◌}
 use mathlib.Core.Bool.{◌&&◌}
-use Prim.Native.Nat.{◌≤◌, ◌-◌}
-use lib.ListN.{length, drop}
+use Prim.Native.Nat.{◌-◌}
+use lib.ListN.{drop}
 use Rattle.definitions.specs.Rules.{increasing}
 use Rattle.edge_validation.proofs.is_increasing.Given as goal
 
 abbrev pub invariant-loop-i : goal.invariant-loop-i
-invariant-loop-i l = (1 ≤ l.i) × (increasing l.edges ≡ l.rises && increasing (drop (l.i - 1) l.edges))
-
-abbrev pub decreases-loop-i : goal.decreases-loop-i
-decreases-loop-i l = length l.edges - l.i
+invariant-loop-i l = increasing l.edges ≡ l.rises && increasing (drop (l.i - 1) l.edges)

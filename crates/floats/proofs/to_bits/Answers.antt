@@ -6,4 +6,4 @@ pub returns-then-is_nan : goal.returns-then-is_nan
 returns-then-is_nan c = search bits_nan
 
 pub float_to_bits-result : goal.float_to_bits-result
-float_to_bits-result c = rw (sym c.is_nan.ensures ∙ c.if-is_nan.false) tt
+float_to_bits-result c = rw (sym c.is_nan.ensures.value ∙ c.if-is_nan.false) tt

@@ -1,14 +1,5 @@
-use mathlib.Core.Path.{refl}
-use native.Mathlib.Omega.{arith}
-use lib.ListN.{length-set}
-use Rattle.record_bytes.proofs.Numbers.{bytes_first, bytes_turn, bytes_done}
+use Rattle.record_bytes.proofs.Numbers.{number_law}
 use Rattle.record_bytes.proofs.store_float.Goals as goal
 
-pub loop-i-init : goal.loop-i-init
-loop-i-init c = (omega arith, refl, search bytes_first)
-
-pub loop-i-preserved : goal.loop-i-preserved
-loop-i-preserved c = (omega arith, simp length-set (omega arith), search bytes_turn)
-
 pub returns : goal.returns
-returns c = search bytes_done
+returns c = number_law _ _ _ _ c.to_bits.ensures c.to_le_bytes.ensures c.copy_from_slice.ensures.after

@@ -1,25 +1,38 @@
+use mathlib.Core.Path.{◌≡◌}
+use Prim.Native.Nat.{◌*◌, ◌≤◌}
 use native.Mathlib.Omega.{arith}
+use lib.ListN.{length, take}
 use Rattle.record_bytes.proofs.Stores.{same_count, same_stored}
-use Rattle.records.proofs.Outcomes.{pack_holds, pack_part, pack_fresh, text_refused, text_lines}
+use Rattle.records.proofs.Outcomes.{limits, pack_room, pack_holds, pack_part, zeros_taken, refused_curve, lines_made}
 use Rattle.records.proofs.write_text.Goals as goal
 
-pub returns-then-number-ne0-clause-value : goal.returns-then-number-ne0-clause-value
-returns-then-number-ne0-clause-value c = (search (same_count, text_refused), omega arith)
+pub returns-in-Err-clause-value : goal.returns-in-Err-clause-value
+returns-in-Err-clause-value c = (search (same_count, refused_curve, c.in-Err.ensures), omega arith)
 
-pub returns-then-number-ne0-clause-out_after : goal.returns-then-number-ne0-clause-out_after
-returns-then-number-ne0-clause-out_after c = search (same_stored, text_refused)
+pub returns-in-Err-clause-out_after : goal.returns-in-Err-clause-out_after
+returns-in-Err-clause-out_after c = search (same_stored, refused_curve, c.in-Err.ensures)
+
+pub slice_bounds-room-end : goal.slice_bounds-room-end
+slice_bounds-room-end c = search (pack_holds, c.in-Ok.ensures)
 
 pub slice_bounds-pack-end : goal.slice_bounds-pack-end
-slice_bounds-pack-end c = search pack_holds
+slice_bounds-pack-end c = search (pack_part, c.in-Ok.ensures)
 
-pub slice_bounds-write_lines-end : goal.slice_bounds-write_lines-end
-slice_bounds-write_lines-end c = search pack_part
+pub fill_pack-requires : goal.fill_pack-requires
+fill_pack-requires c =
+    let h = limits c.args.points.now c.args.edges.now c.in-Ok.ensures in
+    (h.0, h.1, search (zeros_taken, c.in-Ok.ensures))
 
-pub write_lines-requires-clause-fresh : goal.write_lines-requires-clause-fresh
-write_lines-requires-clause-fresh c = search pack_fresh
+pub returns-in-Ok-clause-value : goal.returns-in-Ok-clause-value
+returns-in-Ok-clause-value c =
+    let n = c.n_bins-n.result in
+    let h : 2 * n ≡ length (take (2 * n) c.zeros-room.result) = search (pack_part, c.in-Ok.ensures) in
+    let k : 2 * n ≤ 512 = search (pack_room, c.in-Ok.ensures) in
+    (same_count _ _ _ c.curve_lines.ensures.value.0 (lines_made _ _ _ _ _ c.in-Ok.ensures c.n_bins-n.ensures.0 c.fill_pack.ensures (omega arith) (omega arith) (omega arith)), omega arith)
 
-pub returns-clause-value : goal.returns-clause-value
-returns-clause-value c = (search (same_count, text_lines), omega arith)
-
-pub returns-clause-out_after : goal.returns-clause-out_after
-returns-clause-out_after c = search (same_stored, text_lines)
+pub returns-in-Ok-clause-out_after : goal.returns-in-Ok-clause-out_after
+returns-in-Ok-clause-out_after c =
+    let n = c.n_bins-n.result in
+    let h : 2 * n ≡ length (take (2 * n) c.zeros-room.result) = search (pack_part, c.in-Ok.ensures) in
+    let k : 2 * n ≤ 512 = search (pack_room, c.in-Ok.ensures) in
+    same_stored _ _ _ _ c.curve_lines.ensures.out_after (lines_made _ _ _ _ _ c.in-Ok.ensures c.n_bins-n.ensures.0 c.fill_pack.ensures (omega arith) (omega arith) (omega arith))

@@ -1,14 +1,11 @@
-use Rattle.run_refusals.proofs.Refusals.{new_made, new_refused, valid_accepted_law, valid_refused}
+use Rattle.run_refusals.proofs.Refusals.{new_made, new_refused, validated}
 use Rattle.run_refusals.proofs.edges_refusal.Goals as goal
 
-pub returns-in-Made : goal.returns-in-Made
-returns-in-Made c = search new_made
+pub returns-in_err-new-in-Regular : goal.returns-in_err-new-in-Regular
+returns-in_err-new-in-Regular c = search (new_refused, c.in_err-new-in-Regular.was)
 
-pub returns-in-Refused : goal.returns-in-Refused
-returns-in-Refused c = search new_refused
+pub returns-in_ok-new-in-Regular : goal.returns-in_ok-new-in-Regular
+returns-in_ok-new-in-Regular c = search (new_made, c.in_ok-new-in-Regular.was)
 
-pub returns-in-Accepted : goal.returns-in-Accepted
-returns-in-Accepted c = search valid_accepted_law
-
-pub returns-in-Refused-validate_bin_edges : goal.returns-in-Refused-validate_bin_edges
-returns-in-Refused-validate_bin_edges c = search valid_refused
+pub returns-in-Irregular : goal.returns-in-Irregular
+returns-in-Irregular c = search validated

@@ -1,17 +1,8 @@
-use Rattle.spatial.proofs.Refusals.{refused_first, refused_auto, refused_second, refused_width}
+use Rattle.spatial.proofs.Refusals.{cross_first, cross_second}
 use Rattle.spatial.proofs.sets_refusal.Goals as goal
 
-pub returns-then-first-ne0 : goal.returns-then-first-ne0
-returns-then-first-ne0 c = search refused_first
+pub returns-in_err-block_refusal-in-Cross : goal.returns-in_err-block_refusal-in-Cross
+returns-in_err-block_refusal-in-Cross c = search (cross_first, c.in_err-block_refusal-in-Cross.was)
 
-pub returns-then-auto : goal.returns-then-auto
-returns-then-auto c = search refused_auto
-
-pub block_refusal-second-requires : goal.block_refusal-second-requires
-block_refusal-second-requires c = c.requires.b_limited c.if-auto.false
-
-pub returns-then-second-ne0 : goal.returns-then-second-ne0
-returns-then-second-ne0 c = search refused_second
-
-pub returns : goal.returns
-returns c = search refused_width
+pub returns-in_err-block_refusal-in-Cross-2 : goal.returns-in_err-block_refusal-in-Cross-2
+returns-in_err-block_refusal-in-Cross-2 c = search (cross_second, c.in_ok-block_refusal-in-Cross.was, c.in_err-block_refusal-in-Cross-2.was)

@@ -1,14 +1,12 @@
 use mathlib.Core.Path.{refl}
-use native.Mathlib.Omega.{arith}
-use lib.ListN.{length-set}
 use Rattle.state.proofs.Packs.{merge_turn, merge_done}
 use Rattle.state.proofs.add_first.Goals as goal
 
 pub loop-i-init : goal.loop-i-init
-loop-i-init c = (omega arith, refl, refl)
+loop-i-init c = refl
 
 pub loop-i-preserved : goal.loop-i-preserved
-loop-i-preserved c = (omega arith, simp length-set (omega arith), search merge_turn)
+loop-i-preserved c = (search merge_turn)
 
 pub returns : goal.returns
 returns c = search merge_done

@@ -1,11 +1,6 @@
 use mathlib.Core.Path.{◌≡◌}
-use Prim.Native.Nat.{◌≤◌, ◌-◌}
-use lib.ListN.{length}
 use Rattle.definitions.specs.State.{merge_packs}
 use Rattle.state.proofs.add_first.Given as goal
 
 abbrev pub invariant-loop-i : goal.invariant-loop-i
-invariant-loop-i l = (l.i ≤ l.n) × (length l.pack ≡ length l.initial.pack) × (l.pack ≡ merge_packs l.i l.initial.pack l.other)
-
-abbrev pub decreases-loop-i : goal.decreases-loop-i
-decreases-loop-i l = l.n - l.i
+invariant-loop-i l = (l.pack ≡ merge_packs l.i l.initial.pack l.other)

@@ -1,14 +1,12 @@
 use mathlib.Core.Path.{refl}
-use native.Mathlib.Omega.{arith}
-use lib.ListN.{length-set}
 use Rattle.state.proofs.Packs.{from_turn, from_done}
 use Rattle.state.proofs.add_from.Goals as goal
 
 pub loop-i-init : goal.loop-i-init
-loop-i-init c = (omega arith, refl, refl)
+loop-i-init c = refl
 
 pub loop-i-preserved : goal.loop-i-preserved
-loop-i-preserved c = (omega arith, simp length-set (omega arith), search from_turn)
+loop-i-preserved c = (search from_turn)
 
 pub returns : goal.returns
 returns c = search (from_done c.args.from)

@@ -1,5 +1,5 @@
 use Rattle.state.proofs.Results.{place_part, place_bytes}
-use Rattle.state.proofs.View.{part_here, part_never}
+use Rattle.state.proofs.View.{part_here, part_some}
 use Rattle.state.proofs.state_number.Goals as goal
 
 pub offset_bounds-pack-s : goal.offset_bounds-pack-s
@@ -11,8 +11,8 @@ slice_bounds-read_number-count c = search place_part
 pub slice_bounds-read_number-start : goal.slice_bounds-read_number-start
 slice_bounds-read_number-start c = search place_part
 
-pub returns-in-At : goal.returns-in-At
-returns-in-At c = search part_here
+pub unwrap-requires : goal.unwrap-requires
+unwrap-requires c = search part_some
 
-pub returns-in-Outside : goal.returns-in-Outside
-returns-in-Outside c = search part_never
+pub returns : goal.returns
+returns c = search part_here

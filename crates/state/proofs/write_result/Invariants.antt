@@ -1,6 +1,4 @@
 use mathlib.Core.Path.{◌≡◌}
-use Prim.Native.Nat.{◌≤◌, ◌-◌}
-use lib.ListN.{length}
 use Rattle.definitions.specs.Lists.{overwritten}
 use Rattle.definitions.specs.State.{result_number}
 use Rattle.state.specs.Readings.{state_kind_of}
@@ -8,7 +6,4 @@ use Rattle.state.proofs.write_result.Given as goal
 
 abbrev pub invariant-loop-e : goal.invariant-loop-e
 invariant-loop-e l =
-    (l.e ≤ l.state_size) × (length l.value ≡ length l.initial.value) × (l.value ≡ overwritten l.e (result_number (state_kind_of l.kind) l.n_states l.s l.pack) l.initial.value)
-
-abbrev pub decreases-loop-e : goal.decreases-loop-e
-decreases-loop-e l = l.state_size - l.e
+    (l.value ≡ overwritten l.e (result_number (state_kind_of l.kind) l.shape.n_states l.s l.pack) l.initial.value)

@@ -1,16 +1,14 @@
 use mathlib.Core.Path.{refl}
-use native.Mathlib.Omega.{arith}
-use lib.ListN.{length-set}
 use lib.Ieee.{of_bits}
 use Rattle.state.proofs.Packs.{reset_turn, reset_done}
 use Rattle.state.proofs.zero_first.Goals as goal
 
 pub loop-i-init : goal.loop-i-init
-loop-i-init c = (omega arith, refl, refl)
+loop-i-init c = refl
 
 pub loop-i-preserved : goal.loop-i-preserved
 unfolding of_bits
-loop-i-preserved c = (omega arith, simp length-set (omega arith), search reset_turn)
+loop-i-preserved c = (search reset_turn)
 
 pub returns : goal.returns
 returns c = search reset_done

@@ -1,4 +1,4 @@
-use Rattle.twopoint_cartesian.proofs.Rows.{weight_in, weight_out}
+use Rattle.twopoint_cartesian.proofs.Histograms.{weight_in, weight_out}
 use Rattle.twopoint_cartesian.proofs.add_weight.Goals as goal
 
 pub returns-then-bin-state : goal.returns-then-bin-state

@@ -1,11 +1,8 @@
 use mathlib.Core.Path.{◌≡◌}
-use Prim.Native.Nat.{◌≤◌, ◌-◌}
+use Prim.Native.Nat.{◌-◌}
 use lib.ListN.{length}
 use Rattle.twopoint_cartesian.specs.Cells.{weights_added}
 use Rattle.twopoint_cartesian.proofs.add_weights.Given as goal
 
 abbrev pub invariant-loop-x : goal.invariant-loop-x
-invariant-loop-x l = (l.x ≤ l.x-end) × (l.x-end ≡ length l.found) × (length l.state ≡ length l.initial.state) × (weights_added l.aw l.bw l.i l.j l.found l.x (length l.found - l.x) l.state ≡ weights_added l.aw l.bw l.i l.j l.found 0 (length l.found) l.initial.state)
-
-abbrev pub decreases-loop-x : goal.decreases-loop-x
-decreases-loop-x l = l.x-end - l.x
+invariant-loop-x l = weights_added l.aw l.bw l.i l.j l.found l.x (length l.found - l.x) l.state ≡ weights_added l.aw l.bw l.i l.j l.found 0 (length l.found) l.initial.state

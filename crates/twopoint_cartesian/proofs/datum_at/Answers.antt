@@ -1,4 +1,4 @@
-use Rattle.twopoint_cartesian.proofs.Rows.{datum_is}
+use Rattle.twopoint_cartesian.proofs.Histograms.{datum_is}
 use Rattle.twopoint_cartesian.proofs.datum_at.Goals as goal
 
 pub returns : goal.returns

@@ -1,10 +1,9 @@
 use mathlib.Core.Path.{◌≡◌}
-use Prim.Native.Nat.{◌≤◌, ◌-◌}
-use Rattle.twopoint_cartesian.specs.Cells.{fields, plane_in_mean}
+use Prim.Native.Nat.{◌-◌}
+use Rattle.twopoint_cartesian.specs.Cells.{fields_of, plane_in_mean}
 use Rattle.twopoint_cartesian.proofs.plane_in_mean.Given as goal
 
 abbrev pub invariant-loop-y : goal.invariant-loop-y
-invariant-loop-y l = (l.y ≤ l.k) × (plane_in_mean l.setup (fields l.a0 l.a1 l.a2 l.aw) (fields l.b0 l.b1 l.b2 l.bw) l.i l.j l.sa l.sb l.n l.y (l.k - l.y) l.m ≡ plane_in_mean l.setup (fields l.a0 l.a1 l.a2 l.aw) (fields l.b0 l.b1 l.b2 l.bw) l.i l.j l.sa l.sb l.n 0 l.k l.initial.m)
-
-abbrev pub decreases-loop-y : goal.decreases-loop-y
-decreases-loop-y l = l.k - l.y
+invariant-loop-y l =
+    plane_in_mean l.setup (fields_of l.a) (fields_of l.b) l.rows.i l.rows.j l.rows.sa l.rows.sb l.rows.n l.y (l.rows.m - l.y) l.m
+    ≡ plane_in_mean l.setup (fields_of l.a) (fields_of l.b) l.rows.i l.rows.j l.rows.sa l.rows.sb l.rows.n 0 l.rows.m l.initial.m

@@ -1,29 +1,21 @@
-use mathlib.Core.Path.{◌∙◌}
-use Rattle.parallel_serial.proofs.Refusals.{answer, stays, done}
-use Rattle.twopoint_cartesian.proofs.Runs.{drivable, ready_first, ready_second}
+use Rattle.parallel_serial.proofs.Refusals.{run_answers}
+use Rattle.twopoint_cartesian.proofs.Runs.{drivable, all_ready}
 use Rattle.twopoint_cartesian.proofs.run.Goals as goal
-use Rattle.twopoint_cartesian.proofs.run.Goals.{then-number-eq0, else-number-eq0}
 
-pub drive-requires-clause-a_ready : goal.drive-requires-clause-a_ready
-drive-requires-clause-a_ready c = search ready_first
-
-pub drive-requires-clause-b_ready : goal.drive-requires-clause-b_ready
-drive-requires-clause-b_ready c = search ready_second
+pub drive-requires-clause-ready : goal.drive-requires-clause-ready
+drive-requires-clause-ready c = search (all_ready, c.in_ok-run_refusal.was)
 
 pub drive-requires-clause-drivable : goal.drive-requires-clause-drivable
-drive-requires-clause-drivable c = search drivable
+drive-requires-clause-drivable c = search (drivable, c.in_ok-run_refusal.was)
+
+pub returns-in_err-run_refusal-clause-number : goal.returns-in_err-run_refusal-clause-number
+returns-in_err-run_refusal-clause-number c = search (run_answers, c.in_err-run_refusal.was)
+
+pub returns-in_err-run_refusal-clause-pack_after : goal.returns-in_err-run_refusal-clause-pack_after
+returns-in_err-run_refusal-clause-pack_after c = search (run_answers, c.in_err-run_refusal.was)
 
 pub returns-clause-number : goal.returns-clause-number
-returns-clause-number c =
-    let p = c.args.pack.now in
-    let h = c.run_refusal-number.ensures in
-    answer _ _ _ _ _ _ _ p _ h _ c.outcome_of.ensures
+returns-clause-number c = search (run_answers, c.in_ok-run_refusal.was)
 
 pub returns-clause-pack_after : goal.returns-clause-pack_after
-returns-clause-pack_after c =
-    let p = c.args.pack.now in
-    let h = c.run_refusal-number.ensures in
-    elim c.if-number-eq0.branch [
-      | then-number-eq0 w ↦ done _ _ _ _ _ _ _ p _ h w.if-number-eq0.true _ (w.pack-is ∙ w.drive.ensures)
-      | else-number-eq0 w ↦ w.pack-is ∙ stays _ _ _ _ _ _ _ p _ h w.if-number-eq0.false
-    ]
+returns-clause-pack_after c = search (run_answers, c.in_ok-run_refusal.was)

@@ -1,6 +1,4 @@
-use borrow.Author.Rules.{rules}
 use mathlib.Core.Path.{◌≡◌, refl}
-use Prim.Native.Nat.{zero-le}
 use native.Mathlib.Omega.{arith}
 use lib.ListN.{length}
 use Rattle.reducer.specs.Readings.{reading_of}
@@ -10,18 +8,16 @@ use Rattle.unstructured.proofs.add_pairs.Goals as goal
 
 pub loop-q-init : goal.loop-q-init
 unfolding placed_to
-loop-q-init c = (zero-le, refl, refl)
+loop-q-init c = refl
 
 pub loop-q-preserved : goal.loop-q-preserved
 loop-q-preserved c = let x = c.args in
-    let t = c.loop-q in (
-      omega (arith, c.loop-q-test),
-      search rules,
-      placed_next x.setup x.value_len (reading_of x.first) (reading_in x.c0.now x.c1.now x.c2.now x.w.now) x.places.now x.found.now x.value_found.now t.q _ c.pair_of-pair.result x.scratch.now t.scratch _ t.invariant.2
-          c.reading_at-second.ensures c.pair_of-pair.ensures c.add_pair.ensures,
-    )
+    let f = x.found.now in
+    let t = c.loop-q in
+    placed_next x.setup x.value_len (reading_of x.first) (reading_in f.readings) f.readings.places.now f.bins.now f.values.now t.q _ c.pair_of-pair.result x.scratch.now t.scratch _ t.invariant
+    c.reading_at-second.ensures c.pair_of-pair.ensures c.add_pair.ensures
 
 pub returns : goal.returns
 returns c = let t = c.loop-q in
-    let e : t.q ≡ length c.args.places.now = omega arith in
-    rw e at t.invariant.2
+    let e : t.q ≡ length c.args.found.now.readings.places.now = omega arith in
+    rw e at t.invariant

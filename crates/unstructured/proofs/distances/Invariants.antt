@@ -1,6 +1,6 @@
 use mathlib.Core.Path.{◌≡◌}
-use Prim.Native.Nat.{ℕ, ◌-◌, ◌+◌, ◌≤◌, ◌<◌}
-use lib.ListN.{length, get_or}
+use Prim.Native.Nat.{ℕ, ◌+◌, ◌<◌}
+use lib.ListN.{get_or}
 use lib.Ieee.{nan}
 use Rattle.definitions.specs.Points.{squared_diff_norm}
 use Rattle.unstructured_points.specs.Readings.{the_point}
@@ -8,7 +8,4 @@ use Rattle.unstructured.specs.Pairs.{point_in}
 use Rattle.unstructured.proofs.distances.Given as goal
 
 abbrev pub invariant-loop-e : goal.invariant-loop-e
-invariant-loop-e l = (l.e ≤ l.m) × (length l.d ≡ length l.initial.d) × ((x : ℕ) → x < l.e → get_or l.d x nan ≡ squared_diff_norm (the_point l.a) (point_in l.positions l.values l.weights l.stride (l.j + x)))
-
-abbrev pub decreases-loop-e : goal.decreases-loop-e
-decreases-loop-e l = l.m - l.e
+invariant-loop-e l = (x : ℕ) → x < l.e → get_or l.d x nan ≡ squared_diff_norm (the_point l.a) (point_in l.set (l.j + x))

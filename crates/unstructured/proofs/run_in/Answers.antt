@@ -1,7 +1,8 @@
-use mathlib.Core.Path.{◌∙◌}
-use Rattle.unstructured.proofs.Runs.{added_filled}
+use Rattle.parallel_serial.proofs.Scratch.{part_taken, zeros_are}
+use Rattle.unstructured.proofs.Runs.{from_zeros, added_filled}
 use Rattle.unstructured.proofs.run_in.Goals as goal
-use Rattle.unstructured.proofs.run_in.Goals.{then-few_points, else-few_points}
 
 pub returns : goal.returns
-returns c = added_filled _ _ _ _ (elim c.if-few_points.branch [ then-few_points w ↦ w.scratch-is ∙ w.fill_few.ensures | else-few_points w ↦ w.scratch-is ∙ w.fill_many.ensures ]) c.add_scratch.ensures
+returns g c = let x = c.args in
+    from_zeros x.run.now x.sets.now x.pack.now _ _ _ (part_taken x.used g.row.N _ c.requires.used_bound (zeros_are g.row.N c.requires.n_bound _ c.zeros-zeros.ensures))
+    (added_filled _ _ _ _ c.fill.ensures c.add_scratch.ensures)

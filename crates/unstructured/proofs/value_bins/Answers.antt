@@ -12,7 +12,9 @@ returns-in-ComponentSumMean c = search value_mean
 
 pub returns-in-ComponentSumHistogram : goal.returns-in-ComponentSumHistogram
 returns-in-ComponentSumHistogram c = let x = c.args in
+    let look = x.look.now in
+    let r = x.readings.now in
     let p = c.pair_values in
-    let l = p.auto.d ∙ c.requires.d_len.0 in
-    value_found_law x.setup.reducer x.value_edges.now x.found.now _ _ x.hints.now x.table p.new.d _ c.in-ComponentSumHistogram.is c.requires.tabled_values
-    (values_fit (reading_of x.first) (reading_in x.c0.now x.c1.now x.c2.now x.w.now) x.setup.op x.places.now) (c.requires.d_len.1 ∙ sym l) p.ensures c.bins_of.ensures
+    let l = p.auto.d ∙ c.requires.0 in
+    value_found_law look.run.setup.reducer look.run.value_edges.now x.found.now _ _ look.value_hints.now look.tables.values p.new.d _ c.in-ComponentSumHistogram.is look.tabled.values
+    (values_fit (reading_of x.first) (reading_in r) look.run.setup.op r.places.now) (c.requires.1 ∙ sym l) p.ensures c.bins_of.ensures

@@ -1,5 +1,0 @@
-use Rattle.capi_words.proofs.Words.{lookup_written}
-use Rattle.capi.proofs.pairstat_irregular_bin_index.Goals as goal
-
-pub returns : goal.returns
-returns c = search lookup_written

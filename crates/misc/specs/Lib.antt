@@ -1,2 +1,0 @@
--- What this crate's answers mean.
-pub mod Segment

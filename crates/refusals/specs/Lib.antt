@@ -1,0 +1,2 @@
+-- What the answers of calls mean.
+pub mod Numbers
