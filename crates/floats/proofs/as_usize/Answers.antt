@@ -1,9 +1,6 @@
-use Rattle.std.proofs.Common.{sym, arith}
+use Rattle.std.proofs.Common.{arith}
 use Rattle.floats.proofs.Floor.{whole_exact, floor_is}
 use Rattle.floats.proofs.as_usize.Goals as goal
-
-pub float_to_bits-n : goal.float_to_bits-n
-float_to_bits-n c = rw (sym c.is_nan.ensures.value, c.if-not-is_nan.true) tt
 
 pub int_to_float-n : goal.int_to_float-n
 int_to_float-n c = whole_exact _ (omega arith)
