@@ -11,6 +11,7 @@ use bins::RegularBinEdges;
 use refusals::Refusal;
 
 // Builds regular edges and looks a value up in them.
+#[tactic(auto, unfolding(definitions::specs::Bins::find))]
 pub fn regular_bin_index(
     min: f64,
     max: f64,
@@ -25,6 +26,7 @@ pub fn regular_bin_index(
 }
 
 // Looks irregular edges over and looks a value up in them.
+#[tactic(auto, unfolding(definitions::specs::Bins::find))]
 pub fn irregular_bin_index(edges: &[f64], value: f64) -> Result<Option<usize>, Refusal>
     ensures number { number_of result ≡ refusal (edges_call_rules (irregular edges.now)) }
     ensures found { result_ok result ≡ if_accepted (edges_call_rules (irregular edges.now)) (Some (find (irregular edges.now) value)) None }
@@ -34,6 +36,7 @@ pub fn irregular_bin_index(edges: &[f64], value: f64) -> Result<Option<usize>, R
 }
 
 // The lookup in accepted edges.
+#[tactic(auto, unfolding(definitions::specs::Bins::irregular_index))]
 fn accepted_index(edges: &[f64], value: f64) -> Option<usize>
     requires { T (all_finite edges.now) × T (increasing edges.now) }
     ensures { result ≡ irregular_index edges.now value }

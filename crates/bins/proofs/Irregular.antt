@@ -8,16 +8,16 @@ use native.Mathlib.Omega.{arith}
 use lib.Dec.{T, leb}
 use lib.ListN.{length, get_or}
 use native.Mathlib.Nat.{le_refl}
-use Rattle.std.specs.Prelude.{SomeIff}
+use Rattle.std.specs.Prelude.{SomeIff, slice_get}
 use Rattle.std.specs.List.Sorted.{IsPartitionedBy, IsPartitionPoint}
 use Rattle.std.proofs.lemmas.List.{get_or_default}
 use lib.Ieee.{Float, nan, inf, fin, binary64, lt, le, eq, is_nan, fits}
 use lib.Ieee.Scale.{finite}
 use lib.Ieee.Fits.{and_l, and_r}
-use borrow.Author.Tests.{le-leb, lt-leb, leb-true, leb-false}
+use borrow.Author.Tests.{le-leb, leb-true, leb-false}
 use Rattle.definitions.specs.Lists.{at}
 use Rattle.definitions.specs.Floats.{not_after}
-use Rattle.definitions.specs.Bins.{last_edge, irregular_index}
+use Rattle.definitions.specs.Bins.{last_edge}
 use Rattle.definitions.specs.Rules.{all_finite, increasing}
 use Rattle.floats.specs.Order.{order_key}
 use Rattle.floats.proofs.Keys.{key_order, sorted}
@@ -28,43 +28,17 @@ finite_at [] i a h = absurd (omega arith)
 finite_at (x ∷ es) zero a h = and_l (finite x) (all_finite es) a
 finite_at (x ∷ es) (suc i) a h = finite_at es i (and_r (finite x) (all_finite es) a) (omega arith)
 
--- ---- the end tests
-abbrev Outside : List Float → Float → Bool
-Outside es x = is_nan x || lt x (at es 0) || le (at es (length es - 1)) x
-
+-- ---- the end tests decide nothing where there is no edge
 lt_nan : (x : Float) → lt x nan ≡ false
 unfolding lt
 lt_nan nan = refl
 lt_nan (inf s) = refl
 lt_nan (fin s m e) = refl
 
-module _ (es : List Float) (x : Float) (r : Bool) (q : r ≡ is_nan x) where
-  pub outside_nan : r ≡ true → true ≡ Outside es x
-  outside_nan h = rw (← q, h)
-
-  module _ (h : r ≡ false) where
-    pub outside_low : lt x (at es 0) ≡ true → true ≡ Outside es x
-    outside_low l = rw (← q, h, l)
-
-    pub outside_high : lt x (at es 0) ≡ false → le (at es (length es - 1)) x ≡ Outside es x
-    outside_high l = rw (← q, h, l)
-
-pub outside_empty : (es : List Float) (x : Float) (r : Bool) → r ≡ is_nan x → r ≡ false → length es ≡ 0 → false ≡ Outside es x
+pub outside_empty : (es : List Float) (x : Float) → is_nan x ≡ false → slice_get es 0 ≡ None → false ≡ (is_nan x || lt x (at es 0) || le (at es (length es - 1)) x)
 unfolding le lt eq
-outside_empty [] x r q h z = rw (← q, h, lt_nan x)
-outside_empty (y ∷ es) x r q h z = absurd (omega arith)
-
-pub ruleset outside_outcomes = (outside_nan, outside_empty, outside_low, outside_high)
-
--- ---- the end tests decide, or the last edge not after the value does
-module _ (es : List Float) (x : Float) (r : Bool) (q : r ≡ Outside es x) where
-  pub index_outside : r ≡ true → None ≡ irregular_index es x
-  unfolding irregular_index
-  index_outside h = rw (← q, h)
-
-  pub index_inside : r ≡ false → (b : Option ℕ) → b ≡ last_edge es x (length es) → b ≡ irregular_index es x
-  unfolding irregular_index
-  index_inside h b p = rw (← q, h) p
+outside_empty [] x h z = rw (h, lt_nan x)
+outside_empty (y ∷ es) x h z = cc
 
 -- ---- edges by their keys
 abbrev pub AtMost : List Float → Float → ℕ → Type 0
@@ -77,19 +51,9 @@ module _ (es : List Float) (x : Float) (f : fits binary64 x ≡ true) (g : (i : 
   by_key : (j k : ℕ) → k ≡ order_key (at es j) → not_after (at es j) x ≡ leb k key
   by_key j k q = key_order (at es j) x (g j) (subst T (sym f) tt) ∙ rw (q, p)
 
-  -- the scan from the last edge down; k is the key of the edge before i
-  module _ (i : ℕ) (z : 0 < i) (inv : last_edge es x i ≡ last_edge es x (length es)) (k : ℕ) (q : k ≡ order_key (at es (i - 1))) where
-    pub scan_found : k ≤ key → Some (i - 1) ≡ last_edge es x (length es)
-    unfolding last_edge
-    scan_found t =
-        let e : i ≡ suc (i - 1) = omega arith in
-        sym (ap (last_edge es x) e ∙ rw (by_key (i - 1) k q, le-leb k key t)) ∙ inv
-
-    pub scan_again : key < k → last_edge es x (i - 1) ≡ last_edge es x (length es)
-    unfolding last_edge
-    scan_again t =
-        let e : i ≡ suc (i - 1) = omega arith in
-        sym (ap (last_edge es x) e ∙ rw (by_key (i - 1) k q, lt-leb k key t)) ∙ inv
+  -- what the scan's closure answers of an edge y
+  pub key_at : (j : ℕ) (y : Float) (b : Bool) → y ≡ at es j → b ≡ leb (order_key y) key → not_after (at es j) x ≡ b
+  key_at j y b e q = by_key j (order_key y) (ap order_key e) ∙ sym q
 
   -- the search by halves: whether an edge's key is at most the value's
   abbrev pub not_above : Float → Bool
@@ -104,14 +68,8 @@ module _ (es : List Float) (x : Float) (f : fits binary64 x ≡ true) (g : (i : 
   pub split : (n : ℕ) → IsPartitionPoint (λ y. not_above y ≡ true) (λ y. not_above y ≡ false) es n → AtMost es x n × Above es x n
   split n s = ((λ i u. by_key i (order_key (at es i)) refl ∙ s.0 i nan zero-le u), (λ i u v. by_key i (order_key (at es i)) refl ∙ s.1 i nan u v))
 
-pub scan_done : (es : List Float) (x : Float) (i : ℕ) → i ≤ 0 → last_edge es x i ≡ last_edge es x (length es) → None ≡ last_edge es x (length es)
-unfolding last_edge
-scan_done es x i z inv =
-    let e : 0 ≡ i = omega arith in
-    ap (last_edge es x) e ∙ inv
-
 -- edges after x at the end do not count
-past : (es : List Float) (x : Float) (n p : ℕ) → p ≤ n → ((i : ℕ) → p ≤ i → i < n → not_after (at es i) x ≡ false) → last_edge es x n ≡ last_edge es x p
+pub past : (es : List Float) (x : Float) (n p : ℕ) → p ≤ n → ((i : ℕ) → p ≤ i → i < n → not_after (at es i) x ≡ false) → last_edge es x n ≡ last_edge es x p
 unfolding last_edge
 past es x zero p h a =
     let e : zero ≡ p = omega arith in

@@ -4,7 +4,7 @@ use Rattle.definitions.specs.Points.{UnstructuredPoints}
 use Rattle.definitions.specs.Blocks.{CartesianBlock, CellWidth}
 use Rattle.definitions.specs.Run.{Sets, Run}
 use Rattle.parallel_serial.specs.declared.Shape.{Shape}
-use Rattle.parallel_serial.specs.Drive.{sets_run}
+use Rattle.reducer.specs.Readings.{op_of}
 use Rattle.capi_words.specs.Words.{edges_from, kind_from, op_from, stride_from}
 
 abbrev pub points_from : (n stated stride : ℕ) → (positions values weights : List Float) → UnstructuredPoints
@@ -32,12 +32,20 @@ abbrev pub width_from : (z y x : Float) → CellWidth
 width_from z y x = record { wz = z; wy = y; wx = x }
 
 abbrev pub shape_from : (states size members teams : ℕ) → Shape
-shape_from states size members teams = record { n_states = states; state_size = size; members = members; teams = teams }
+shape_from states size members teams = record { pack = record { n_states = states; state_size = size }; members = members; teams = teams }
 
 -- a run over these sets: the distance edges, the form, a histogram's value edges, the operation, and the shape
 abbrev pub run_from : Sets → (irregular : ℕ) → (min max : Float) → (n : ℕ) → (list : List Float)
     → (form value_irregular : ℕ) → (value_min value_max : Float) → (value_n : ℕ) → (value_list : List Float)
     → (subtract states size members teams : ℕ) → Run
 run_from sets irregular min max n list form value_irregular value_min value_max value_n value_list subtract states size members teams =
-    sets_run sets (edges_from irregular min max n) list (kind_from form (edges_from value_irregular value_min value_max value_n)) value_list
-    (op_from subtract) (shape_from states size members teams)
+    record {
+      sets = sets;
+      op = op_of (op_from subtract);
+      kind = kind_from form (edges_from value_irregular value_min value_max value_n value_list);
+      edges = edges_from irregular min max n list;
+      states = states;
+      size = size;
+      members = members;
+      teams = teams;
+    }

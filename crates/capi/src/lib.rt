@@ -11,10 +11,11 @@ ghost use Rattle.definitions.specs.Rules.{refusal, if_accepted, edges_call_rules
 ghost use Rattle.definitions.specs.Rules.{reset_rules, merge_rules, consolidate_rules, result_rules};
 ghost use Rattle.state_refusals.specs.Readings.{state_kind_of};
 ghost use Rattle.capi_words.specs.Words.{edges_from, kind_from, op_from, stride_from, state_kind_from, written, lookup_words, segment_words};
+ghost use Rattle.spatial.specs.Readings.{block_of};
 ghost use Rattle.unstructured_points.specs.Readings.{points_of};
 ghost use Rattle.capi.specs.Entries.{points_from, block_from, width_from, shape_from, run_from};
 
-use parallel_serial::Shape;
+use parallel_serial::{RunSpec, Shape};
 use spatial::{Block, CellWidth};
 use state_refusals::PackShape;
 use unstructured_points::PointSet;
@@ -37,6 +38,54 @@ fn set_from<'a>(
         weights,
         n_points,
         stride: capi_words::stride_from(stated, stride),
+    }
+}
+
+// Takes one of C's lists, once instead of at each place that makes a block.
+fn block_from<'a>(
+    nz: usize,
+    ny: usize,
+    nx: usize,
+    sz: usize,
+    sy: usize,
+    sx: usize,
+    gz: i64,
+    gy: i64,
+    gx: i64,
+    comp0: &'a [f64],
+    comp1: &'a [f64],
+    comp2: &'a [f64],
+    weights: &'a [f64],
+) -> Block<'a>
+    ensures { block_of result ≡ block_from nz ny nx sz sy sx gz gy gx comp0.entry.now comp1.entry.now comp2.entry.now weights.entry.now }
+{
+    Block {
+        comp0,
+        comp1,
+        comp2,
+        weights,
+        nz,
+        ny,
+        nx,
+        sz,
+        sy,
+        sx,
+        gz,
+        gy,
+        gx,
+    }
+}
+
+fn shape_from(n_states: usize, state_size: usize, members: usize, teams: usize) -> Shape
+    ensures { result ≡ shape_from n_states state_size members teams }
+{
+    Shape {
+        pack: PackShape {
+            n_states,
+            state_size,
+        },
+        members,
+        teams,
     }
 }
 
@@ -178,7 +227,7 @@ pub extern "C" fn pairstat_value_from_accum_state(
     refusals::number_of(state::value_from_accum_state(kind, shape, index, pack, value))
 }
 
-// ---- the runs: the number of the refusal, 0 for none
+// ---- the runs: the number of the refusal, 0 for none. Each takes edges, kind and operation out of its own list: a function for it would have the list again.
 
 #[unsafe(no_mangle)]
 pub extern "C" fn pairstat_points_auto(
@@ -214,26 +263,20 @@ pub extern "C" fn pairstat_points_auto(
         form value_irregular value_min value_max value_bins value_edges.now subtract n_states state_size members teams) pack.old }
 {
     let set = set_from(positions, values, weights, n_points, stated, stride);
-    let edges = capi_words::edges_from(irregular, min, max, n_bins);
-    let value = capi_words::edges_from(value_irregular, value_min, value_max, value_bins);
-    let kind = capi_words::kind_from(form, value);
-    let op = capi_words::op_from(subtract);
-    let shape = Shape {
-        n_states,
-        state_size,
-        members,
-        teams,
-    };
-    refusals::number_of(unstructured::points_auto(
-        set,
-        edges,
-        list,
-        kind,
+    let value = capi_words::edges_from(
+        value_irregular,
+        value_min,
+        value_max,
+        value_bins,
         value_edges,
-        op,
-        shape,
-        pack,
-    ))
+    );
+    let spec = RunSpec {
+        edges: capi_words::edges_from(irregular, min, max, n_bins, list),
+        kind: capi_words::kind_from(form, value),
+        op: capi_words::op_from(subtract),
+        shape: shape_from(n_states, state_size, members, teams),
+    };
+    refusals::number_of(unstructured::points_auto(set, spec, pack))
 }
 
 #[unsafe(no_mangle)]
@@ -293,27 +336,20 @@ pub extern "C" fn pairstat_points_cross(
         b_stated,
         b_stride,
     );
-    let edges = capi_words::edges_from(irregular, min, max, n_bins);
-    let value = capi_words::edges_from(value_irregular, value_min, value_max, value_bins);
-    let kind = capi_words::kind_from(form, value);
-    let op = capi_words::op_from(subtract);
-    let shape = Shape {
-        n_states,
-        state_size,
-        members,
-        teams,
-    };
-    refusals::number_of(unstructured::points_cross(
-        a,
-        b,
-        edges,
-        list,
-        kind,
+    let value = capi_words::edges_from(
+        value_irregular,
+        value_min,
+        value_max,
+        value_bins,
         value_edges,
-        op,
-        shape,
-        pack,
-    ))
+    );
+    let spec = RunSpec {
+        edges: capi_words::edges_from(irregular, min, max, n_bins, list),
+        kind: capi_words::kind_from(form, value),
+        op: capi_words::op_from(subtract),
+        shape: shape_from(n_states, state_size, members, teams),
+    };
+    refusals::number_of(unstructured::points_cross(a, b, spec, pack))
 }
 
 #[unsafe(no_mangle)]
@@ -361,47 +397,28 @@ pub extern "C" fn pairstat_blocks_auto(
         irregular min max n_bins list.now
         form value_irregular value_min value_max value_bins value_edges.now subtract n_states state_size members teams) pack.old }
 {
-    let a = Block {
-        comp0: a0,
-        comp1: a1,
-        comp2: a2,
-        weights: aw,
-        nz: a_nz,
-        ny: a_ny,
-        nx: a_nx,
-        sz: a_sz,
-        sy: a_sy,
-        sx: a_sx,
-        gz: a_gz,
-        gy: a_gy,
-        gx: a_gx,
-    };
+    let a = block_from(
+        a_nz, a_ny, a_nx, a_sz, a_sy, a_sx, a_gz, a_gy, a_gx, a0, a1, a2, aw,
+    );
     let width = CellWidth {
         z: width_z,
         y: width_y,
         x: width_x,
     };
-    let edges = capi_words::edges_from(irregular, min, max, n_bins);
-    let value = capi_words::edges_from(value_irregular, value_min, value_max, value_bins);
-    let kind = capi_words::kind_from(form, value);
-    let op = capi_words::op_from(subtract);
-    let shape = Shape {
-        n_states,
-        state_size,
-        members,
-        teams,
-    };
-    refusals::number_of(twopoint_cartesian::blocks_auto(
-        a,
-        width,
-        edges,
-        list,
-        kind,
+    let value = capi_words::edges_from(
+        value_irregular,
+        value_min,
+        value_max,
+        value_bins,
         value_edges,
-        op,
-        shape,
-        pack,
-    ))
+    );
+    let spec = RunSpec {
+        edges: capi_words::edges_from(irregular, min, max, n_bins, list),
+        kind: capi_words::kind_from(form, value),
+        op: capi_words::op_from(subtract),
+        shape: shape_from(n_states, state_size, members, teams),
+    };
+    refusals::number_of(twopoint_cartesian::blocks_auto(a, width, spec, pack))
 }
 
 #[unsafe(no_mangle)]
@@ -464,61 +481,29 @@ pub extern "C" fn pairstat_blocks_cross(
         irregular min max n_bins list.now
         form value_irregular value_min value_max value_bins value_edges.now subtract n_states state_size members teams) pack.old }
 {
-    let a = Block {
-        comp0: a0,
-        comp1: a1,
-        comp2: a2,
-        weights: aw,
-        nz: a_nz,
-        ny: a_ny,
-        nx: a_nx,
-        sz: a_sz,
-        sy: a_sy,
-        sx: a_sx,
-        gz: a_gz,
-        gy: a_gy,
-        gx: a_gx,
-    };
-    let b = Block {
-        comp0: b0,
-        comp1: b1,
-        comp2: b2,
-        weights: bw,
-        nz: b_nz,
-        ny: b_ny,
-        nx: b_nx,
-        sz: b_sz,
-        sy: b_sy,
-        sx: b_sx,
-        gz: b_gz,
-        gy: b_gy,
-        gx: b_gx,
-    };
+    let a = block_from(
+        a_nz, a_ny, a_nx, a_sz, a_sy, a_sx, a_gz, a_gy, a_gx, a0, a1, a2, aw,
+    );
+    let b = block_from(
+        b_nz, b_ny, b_nx, b_sz, b_sy, b_sx, b_gz, b_gy, b_gx, b0, b1, b2, bw,
+    );
     let width = CellWidth {
         z: width_z,
         y: width_y,
         x: width_x,
     };
-    let edges = capi_words::edges_from(irregular, min, max, n_bins);
-    let value = capi_words::edges_from(value_irregular, value_min, value_max, value_bins);
-    let kind = capi_words::kind_from(form, value);
-    let op = capi_words::op_from(subtract);
-    let shape = Shape {
-        n_states,
-        state_size,
-        members,
-        teams,
-    };
-    refusals::number_of(twopoint_cartesian::blocks_cross(
-        a,
-        b,
-        width,
-        edges,
-        list,
-        kind,
+    let value = capi_words::edges_from(
+        value_irregular,
+        value_min,
+        value_max,
+        value_bins,
         value_edges,
-        op,
-        shape,
-        pack,
-    ))
+    );
+    let spec = RunSpec {
+        edges: capi_words::edges_from(irregular, min, max, n_bins, list),
+        kind: capi_words::kind_from(form, value),
+        op: capi_words::op_from(subtract),
+        shape: shape_from(n_states, state_size, members, teams),
+    };
+    refusals::number_of(twopoint_cartesian::blocks_cross(a, b, width, spec, pack))
 }

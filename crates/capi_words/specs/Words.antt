@@ -1,22 +1,20 @@
 -- A flat call's numbers: each stands for something, so that no call is without a meaning. An answer is a number, or three words.
 use Rattle.std.specs.Prelude.{Option, None, Some}
 use Rattle.std.specs.Prelude.{List, [], ◌∷◌, cond, ℕ, eqb, length, Float}
+use Rattle.definitions.specs.Bins.{Edges, regular, irregular}
+use Rattle.definitions.specs.Reducer.{Kind, comp0_mean, component_sum_mean, component_sum_histogram}
 use Rattle.state_refusals.specs.declared.StateKind.{StateKind}
 use Rattle.state_refusals.specs.declared.StateKind.TheVariants.{Mean, Histogram}
 use Rattle.reducer.specs.declared.PairOperation.{PairOperation}
 use Rattle.reducer.specs.declared.PairOperation.TheVariants.{ElementwiseMultiply, ElementwiseSub}
-use Rattle.reducer.specs.declared.Edges.{Edges}
-use Rattle.reducer.specs.declared.Edges.TheVariants.{Regular, Irregular}
-use Rattle.reducer.specs.declared.Kind.{Kind}
-use Rattle.reducer.specs.declared.Kind.TheVariants.{Comp0Mean, ComponentSumMean, ComponentSumHistogram}
 
 -- 0: regular
-unfoldable pub edges_from : ℕ → Float → Float → ℕ → Edges
-edges_from irregular min max n = cond (eqb irregular 0) (Regular min max n) Irregular
+unfoldable pub edges_from : ℕ → Float → Float → ℕ → List Float → Edges
+edges_from stated min max n list = cond (eqb stated 0) (regular min max n) (irregular list)
 
 -- 0: mean over the first component; 1: mean over the sum
 unfoldable pub kind_from : ℕ → Edges → Kind
-kind_from form e = cond (eqb form 0) Comp0Mean (cond (eqb form 1) ComponentSumMean (ComponentSumHistogram e))
+kind_from form e = cond (eqb form 0) comp0_mean (cond (eqb form 1) component_sum_mean (component_sum_histogram e))
 
 -- 0: multiplied
 unfoldable pub op_from : ℕ → PairOperation

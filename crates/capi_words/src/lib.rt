@@ -4,28 +4,35 @@
 ghost use Rattle.std.specs.Prelude.{◌≡◌, [], ◌∷◌};
 ghost use Rattle.std.specs.Result.{result_ok};
 ghost use Rattle.refusals.specs.Numbers.{refusal_number, number_of};
+ghost use Rattle.reducer.specs.Readings.{edges_of, kind_of};
 ghost use Rattle.capi_words.specs.Words.{edges_from, kind_from, op_from, stride_from, state_kind_from, written, lookup_words, segment_words};
 
-use reducer::{Edges, Kind, PairOperation};
+use reducer::{Edges, Kind, PairOperation, RegularEdges};
 use refusals::Refusal;
 use state_refusals::StateKind;
 
 // ---- what the numbers stand for; they are the C interface
 
 #[tactic(auto, unfolding(crate::specs::Words::edges_from))]
-pub fn edges_from(irregular: u64, min: f64, max: f64, n_bins: usize) -> Edges
-    ensures { result ≡ edges_from irregular min max n_bins }
+pub fn edges_from<'a>(
+    irregular: u64,
+    min: f64,
+    max: f64,
+    n_bins: usize,
+    list: &'a [f64],
+) -> Edges<'a>
+    ensures { edges_of result ≡ edges_from irregular min max n_bins list.entry.now }
 {
     if irregular == 0 {
-        Edges::Regular(min, max, n_bins)
+        Edges::Regular(RegularEdges { min, max, n_bins })
     } else {
-        Edges::Irregular
+        Edges::Irregular(list)
     }
 }
 
 #[tactic(auto, unfolding(crate::specs::Words::kind_from))]
-pub fn kind_from(form: u64, edges: Edges) -> Kind
-    ensures { result ≡ kind_from form edges }
+pub fn kind_from<'a>(form: u64, edges: Edges<'a>) -> Kind<'a>
+    ensures { kind_of result ≡ kind_from form (edges_of edges.entry) }
 {
     match form {
         0 => Kind::Comp0Mean,

@@ -1,4 +1,4 @@
-// The text of a curve in ASCII, put into a slice.
+// The text of a curve in ASCII, put into a slice. By hand: `write!` says what it writes to a String alone, and there is no heap here.
 #![tactic(auto)]
 
 ghost use Rattle.std.specs.Prelude.{◌≡◌, ◌*◌, ◌<◌, ◌≤◌, length};
@@ -7,23 +7,27 @@ ghost use Rattle.record_bytes.specs.Stores.{stored};
 ghost use Rattle.curve_text.specs.Text.{decimal_text, decimal_then, hex_text, bits_then, line_text, lines_text, refused_text};
 ghost use Rattle.curve_text.specs.Text.{lines_fitting, refused_fitting, fitted};
 
+// A number of at most three decimal digits.
+#[derive(Clone, Copy)]
+struct ThreeDigits {
+    value: usize,
+    ghost few: { value < 1000 },
+}
+
 fn digit(d: usize) -> u8
     requires { d < 16 }
     ensures { result ≡ hex_digit d }
 {
-    if d < 10 {
-        b'0' + d as u8
-    } else {
-        b'a' - 10 + d as u8
-    }
+    b"0123456789abcdef"[d]
 }
 
 // The number at the front; answers how many digits it takes.
-fn put_decimal(out: &mut [u8], n: usize) -> usize
-    requires { (n < 1000) × (3 ≤ length out.old) }
-    ensures value { (result ≡ length (decimal_text n)) × (result ≤ 3) }
-    ensures out_after { out.new ≡ stored 0 (decimal_text n) out.old }
+fn put_decimal(out: &mut [u8], number: ThreeDigits) -> usize
+    requires { 3 ≤ length out.old }
+    ensures value { (result ≡ length (decimal_text number.value)) × (result ≤ 3) }
+    ensures out_after { out.new ≡ stored 0 (decimal_text number.value) out.old }
 {
+    let n = number.value;
     if n < 10 {
         out[0] = digit(n);
         return 1;
@@ -40,12 +44,12 @@ fn put_decimal(out: &mut [u8], n: usize) -> usize
 }
 
 // The number and what follows it, at the front; answers their length.
-fn put_number(out: &mut [u8], n: usize, end: u8) -> usize
-    requires { (n < 1000) × (4 ≤ length out.old) }
-    ensures value { (result ≡ length (decimal_then n end)) × (result ≤ 4) }
-    ensures out_after { out.new ≡ stored 0 (decimal_then n end) out.old }
+fn put_number(out: &mut [u8], number: ThreeDigits, end: u8) -> usize
+    requires { 4 ≤ length out.old }
+    ensures value { (result ≡ length (decimal_then number.value end)) × (result ≤ 4) }
+    ensures out_after { out.new ≡ stored 0 (decimal_then number.value end) out.old }
 {
-    let p = put_decimal(out, n);
+    let p = put_decimal(out, number);
     out[p] = end;
     p + 1
 }
@@ -56,6 +60,7 @@ fn put_hex(out: &mut [u8], n: u64)
     ensures { out.new ≡ stored 0 (hex_text 16 n) out.old }
 {
     let mut rest = n;
+    // Not `iter_mut`: after a loop over it from the back, a proof knows nothing of the bytes.
     for i in (0..16).rev() {
         out[i] = digit((rest % 16) as usize);
         rest /= 16;
@@ -67,15 +72,15 @@ fn put_bits(out: &mut [u8], x: f64, end: u8)
     requires { 17 ≤ length out.old }
     ensures { out.new ≡ stored 0 (bits_then x end) out.old }
 {
-    put_hex(out, floats::to_bits(x));
+    put_hex(out, std::num::f64_to_bits_with_nan(x));
     out[16] = end;
 }
 
 // The line of a bin at the front; answers its length.
-fn put_line(out: &mut [u8], bin: usize, total: f64, weight: f64) -> usize
-    requires { (bin < 1000) × (38 ≤ length out.old) }
-    ensures value { (result ≡ length (line_text bin total weight)) × (result ≤ 38) }
-    ensures out_after { out.new ≡ stored 0 (line_text bin total weight) out.old }
+fn put_line(out: &mut [u8], bin: ThreeDigits, total: f64, weight: f64) -> usize
+    requires { 38 ≤ length out.old }
+    ensures value { (result ≡ length (line_text bin.value total weight)) × (result ≤ 38) }
+    ensures out_after { out.new ≡ stored 0 (line_text bin.value total weight) out.old }
 {
     let p = put_number(out, bin, b' ');
     put_bits(&mut out[p..], total, b' ');
@@ -83,32 +88,39 @@ fn put_line(out: &mut [u8], bin: usize, total: f64, weight: f64) -> usize
     p + 34
 }
 
-// The lines of n bins from the front on; answers their length.
-fn put_lines(out: &mut [u8], pack: &[f64], n: usize) -> usize
-    requires { (n < 1000) × (n * 2 ≤ length pack.now) × (n * 38 ≤ length out.old) }
-    ensures value { (result ≡ length (lines_text n n pack.now)) × (result ≤ n * 38) }
-    ensures out_after { out.new ≡ stored 0 (lines_text n n pack.now) out.old }
+// The lines of n bins from the front on; answers their length. By an index: the bin's number is written, and the pack is read at two places.
+fn put_lines(out: &mut [u8], pack: &[f64], bins: ThreeDigits) -> usize
+    requires { (bins.value * 2 ≤ length pack.now) × (bins.value * 38 ≤ length out.old) }
+    ensures value { (result ≡ length (lines_text bins.value bins.value pack.now)) × (result ≤ bins.value * 38) }
+    ensures out_after { out.new ≡ stored 0 (lines_text bins.value bins.value pack.now) out.old }
 {
+    let n = bins.value;
     let mut k = 0;
     for s in 0..n {
-        k += put_line(&mut out[k..], s, pack[s], pack[n + s]);
+        k += put_line(
+            &mut out[k..],
+            ThreeDigits { value: s },
+            pack[s],
+            pack[n + s],
+        );
     }
     k
 }
 
 // `refused ` and the number at the front; answers the line's length.
-fn put_refused(out: &mut [u8], n: usize) -> usize
-    requires { (n < 1000) × (12 ≤ length out.old) }
-    ensures value { (result ≡ length (refused_text n)) × (result ≤ 12) }
-    ensures out_after { out.new ≡ stored 0 (refused_text n) out.old }
+fn put_refused(out: &mut [u8], number: ThreeDigits) -> usize
+    requires { 12 ≤ length out.old }
+    ensures value { (result ≡ length (refused_text number.value)) × (result ≤ 12) }
+    ensures out_after { out.new ≡ stored 0 (refused_text number.value) out.old }
 {
     out[..8].copy_from_slice(b"refused ");
-    8 + put_number(&mut out[8..], n, b'\n')
+    8 + put_number(&mut out[8..], number, b'\n')
 }
 
 // ---- what others call
 
 // The lines of n bins from the front on, unless the bins' numbers have more than three digits, the pack is too short or out has no room; answers their length.
+// 0 where nothing is written, which is what happened: nobody asks why.
 pub fn curve_lines(out: &mut [u8], pack: &[f64], n: usize) -> usize
     ensures value { (result ≡ length (lines_fitting n pack.now (length out.old))) × (result ≤ n * 38) }
     ensures out_after { out.new ≡ stored 0 (lines_fitting n pack.now (length out.old)) out.old }
@@ -122,10 +134,10 @@ pub fn curve_lines(out: &mut [u8], pack: &[f64], n: usize) -> usize
     if out.len() < n * 38 {
         return 0;
     }
-    put_lines(out, pack, n)
+    put_lines(out, pack, ThreeDigits { value: n })
 }
 
-// The line of a refusal at the front, unless its number has more than three digits or out has no room; answers its length.
+// The line of a refusal at the front, unless its number has more than three digits or out has no room; answers its length, 0 where nothing is written.
 // It takes any number: a `Refusal` would promise less.
 #[tactic(auto, using(record_bytes::proofs::Stores::none_stored), unfolding(crate::specs::Text::refused_fitting))]
 pub fn refused_line(out: &mut [u8], n: usize) -> usize
@@ -138,7 +150,7 @@ pub fn refused_line(out: &mut [u8], n: usize) -> usize
     if out.len() < 12 {
         return 0;
     }
-    put_refused(out, n)
+    put_refused(out, ThreeDigits { value: n })
 }
 
 // The text at the front of out, if it fits.

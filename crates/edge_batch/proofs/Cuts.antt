@@ -3,67 +3,15 @@ use mathlib.Core.Path.{◌≡◌, refl, subst}
 use mathlib.Core.Bool.{Bool, true, false, cond}
 use Prim.Native.Nat.{ℕ, ◌-◌, ◌^◌, ◌<◌}
 use native.Mathlib.Omega.{arith}
-use lib.Dec.{T}
 use lib.IntN.{pos}
 use lib.Ieee
 use lib.Ieee.{Float, binary64, add, lt, le, of_int, of_bits, in_float}
 use Rattle.definitions.specs.Floats.{as_usize}
 use Rattle.laws.proofs.WholeFloats.{Whole, total_add}
-use Rattle.floats.proofs.Floor.{whole_exact, floor_is}
+use Rattle.floats.proofs.Floor.{floor_is}
 use Rattle.bins.specs.declared.RegularBinEdges.{RegularBinEdges}
 use Rattle.edge_batch.specs.Batch.{quotient, guess_of, is_sure, is_past, number_for, sure_cut, sure_number}
 use Rattle.edge_table.proofs.Lookup.{and-true}
-
--- ---- the test of a guess
-pub small_float : (h : ℕ) → h < 4096 → T (in_float binary64 (pos h))
-small_float h l = whole_exact h (omega arith)
-
-module _ (inside : Bool) (e : RegularBinEdges) (x : Float) where
-  pub past_never : inside ≡ true → false ≡ is_past inside e x
-  unfolding is_past
-  past_never i = rw i
-
-  module _ (i : inside ≡ false) where
-    pub past_low : lt x e.min ≡ true → true ≡ is_past inside e x
-    unfolding is_past
-    past_low a = rw (i, a)
-
-    pub past_high : lt x e.min ≡ false → le e.max x ≡ is_past inside e x
-    unfolding is_past
-    past_high a = rw (i, a)
-
-  -- r is what `is_past` answered
-  module _ (r : Bool) (er : r ≡ is_past inside e x) where
-    pub number_past : r ≡ true → 4096 ≡ number_for inside e x
-    unfolding number_for
-    number_past t = rw (← er, t)
-
-    pub number_whole : (n : ℕ) → r ≡ false → n ≡ as_usize (quotient e x) → n ≡ number_for inside e x
-    unfolding number_for
-    number_whole n t k = rw (← er, t) k
-
-    pub sure_past : r ≡ true → 4096 ≡ sure_number inside e x
-    unfolding sure_number
-    sure_past t = rw (← er, t)
-
-    pub sure_number_law : (n : ℕ) → r ≡ false → n ≡ sure_cut (quotient e x) → n ≡ sure_number inside e x
-    unfolding sure_number
-    sure_number_law n t k = rw (← er, t) k
-
--- h is the guess
-module _ (q : Float) (h : ℕ) (eh : h ≡ guess_of q) where
-  pub sure_high : le (of_int binary64 (pos h)) q ≡ false → 2 ^ 64 - 1 ≡ sure_cut q
-  unfolding sure_cut is_sure
-  sure_high a = rw (← eh, a)
-
-  module _ (a : le (of_int binary64 (pos h)) q ≡ true) where
-    pub sure_guess : lt q (add binary64 (of_int binary64 (pos h)) (of_bits binary64 0x3ff0_0000_0000_0000)) ≡ true → h ≡ sure_cut q
-    unfolding sure_cut is_sure
-    sure_guess b = rw (← eh, a, b)
-
-    pub sure_low : lt q (add binary64 (of_int binary64 (pos h)) (of_bits binary64 0x3ff0_0000_0000_0000)) ≡ false → 2 ^ 64 - 1 ≡ sure_cut q
-    unfolding sure_cut is_sure
-    sure_low b = rw (← eh, a, b)
 
 -- ---- a tested guess is the number
 one : Whole (of_bits binary64 0x3ff0_0000_0000_0000) (pos 1)

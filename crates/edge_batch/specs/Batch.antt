@@ -1,20 +1,21 @@
 -- Lookups of a batch of values: what the functions leave for any hints and table, also ones of other edges.
-use Rattle.std.specs.Prelude.{Option, None, Some}
+use Rattle.std.specs.Prelude.{Option, unwrap_or}
 use Rattle.std.specs.Prelude.{List, [], ◌∷◌, map, Bool, cond, not, ◌&&◌, ◌||◌, ℕ, ◌-◌, ◌/◌, ◌%◌, ◌^◌, ◌<◌, ◌≤◌, ltb, eqb, length, get_or, pos, Float}
 use Rattle.std.specs.Float.{binary64}
 use Rattle.std.specs.Float.Ieee.{add, sub, div, lt, le, of_int, of_bits, to_bits}
 use Rattle.definitions.specs.Floats.{as_usize}
 use Rattle.bins.specs.declared.RegularBinEdges.{RegularBinEdges}
-use Rattle.reducer.specs.declared.BuiltEdges.{BuiltEdges}
-use Rattle.reducer.specs.declared.BuiltEdges.TheVariants.{Regular, Irregular}
+use Rattle.reducer.specs.declared.BinEdges.TheVariants.{Regular, Irregular}
+use Rattle.reducer.specs.Readings.{BuiltEdges}
 use Rattle.reducer.specs.Consume.{built_bin}
+use Rattle.edge_table.specs.declared.Ends.{Ends}
 use Rattle.edge_table.specs.declared.Table.{Table}
-use Rattle.edge_table.specs.Table.{flag_of, located_bin, place_of, sure_at}
+use Rattle.edge_table.specs.Table.{past_end, located_bin, place_of, sure_at}
+use Rattle.edge_batch.specs.declared.Lookup.{Lookup}
 
 -- the bin, or a number past every bin
 abbrev pub number_or : Option ℕ → ℕ
-number_or None = 4096
-number_or (Some b) = b
+number_or o = unwrap_or o 4096
 
 -- ---- regular edges: the quotient's whole number
 abbrev pub quotient : RegularBinEdges → Float → Float
@@ -43,39 +44,42 @@ sure_cut q = cond (is_sure q (guess_of q)) (guess_of q) (2 ^ 64 - 1)
 unfoldable pub sure_number : Bool → RegularBinEdges → Float → ℕ
 sure_number inside e x = cond (is_past inside e x) 4096 (sure_cut (quotient e x))
 
--- m is at least each
-abbrev pub AtMost : ℕ → List ℕ → Type 0
-AtMost m l = (i : ℕ) → i < length l → get_or l i 0 ≤ m
+-- m is at least each of the first n
+abbrev pub AtMost : ℕ → ℕ → List ℕ → Type 0
+AtMost m n l = (i : ℕ) → i < n → i < length l → get_or l i 0 ≤ m
 
 -- ---- a batch
--- each number is made anew of its value and itself
+-- each number is made anew of its value and itself, as far as there are both
 unfoldable pub each : (Float → ℕ → ℕ) → List Float → List ℕ → List ℕ
 each f [] l = l
 each f (v ∷ x) [] = []
 each f (v ∷ x) (n ∷ l) = f v n ∷ each f x l
 
+abbrev pub sure_in : Bool → BuiltEdges → Table → List ℕ → Float → ℕ
+sure_in inside (Regular e) table hints x = sure_number inside e x
+sure_in inside (Irregular list) table hints x = sure_at list.now hints x (place_of inside table x)
+
 -- a value's number where a guess or a hint is shown right, else a mark past every number
-abbrev pub sure : Bool → BuiltEdges → List Float → List ℕ → Table → Float → ℕ
-sure inside (Regular e) list hints table x = sure_number inside e x
-sure inside Irregular list hints table x = sure_at list hints x (place_of inside table x)
+abbrev pub sure : Bool → Lookup → Float → ℕ
+sure inside look x = sure_in inside look.edges look.table look.hints.now x
 
 -- a value's number by the edges alone; of regular edges it may also be an index past the bins
-abbrev pub settled : Bool → BuiltEdges → List Float → Table → Float → ℕ
-settled inside (Regular e) list table x = number_for inside e x
-settled inside Irregular list table x = cond (eqb (flag_of table.first table.last x) 0) 4096 (number_or (located_bin list x))
+abbrev pub settled : Bool → BuiltEdges → Ends → Float → ℕ
+settled inside (Regular e) ends x = number_for inside e x
+settled inside (Irregular list) ends x = cond (past_end ends x) 4096 (number_or (located_bin list.now x))
 
 -- n where it is no mark
-unfoldable pub settled_or : Bool → BuiltEdges → List Float → Table → Float → ℕ → ℕ
-settled_or inside edges list table x n = cond (ltb n 8192) n (settled inside edges list table x)
+unfoldable pub settled_or : Bool → Lookup → Float → ℕ → ℕ
+settled_or inside look x n = cond (ltb n 8192) n (settled inside look.edges look.table.ends x)
 
-abbrev pub batch_number : Bool → BuiltEdges → List Float → List ℕ → Table → Float → ℕ
-batch_number inside edges list hints table x = settled_or inside edges list table x (sure inside edges list hints table x)
+abbrev pub batch_number : Bool → Lookup → Float → ℕ
+batch_number inside look x = settled_or inside look x (sure inside look x)
 
 -- each value's number; as they were where the lengths differ
-unfoldable pub found_of : Bool → BuiltEdges → List Float → List ℕ → Table → List Float → List ℕ → List ℕ
-found_of inside edges list hints table x found = cond (eqb (length found) (length x)) (map (batch_number inside edges list hints table) x) found
+unfoldable pub found_of : Bool → Lookup → List Float → List ℕ → List ℕ
+found_of inside look x found = cond (eqb (length found) (length x)) (map (batch_number inside look) x) found
 
 -- a value's number by the edges' own lookup
-abbrev pub number_in : Bool → BuiltEdges → List Float → Float → ℕ
-number_in inside (Regular e) list x = number_for inside e x
-number_in inside Irregular list x = number_or (built_bin Irregular list x)
+abbrev pub number_in : Bool → BuiltEdges → Float → ℕ
+number_in inside (Regular e) x = number_for inside e x
+number_in inside (Irregular list) x = number_or (built_bin (Irregular list) x)

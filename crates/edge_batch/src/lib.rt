@@ -1,39 +1,46 @@
 // Lookups of a batch of values: a first loop takes guesses and hints that comparisons show right, and marks the rest; a second loop finds what is marked.
+// The loops go by an index: after a zip with iter_mut() a proof knows none of the numbers that were written. They are three, not one that takes a closure:
+// each is a line or two, and the one would have to say its numbers by what the closure promises.
 #![tactic(auto)]
 
-ghost use Rattle.std.specs.Prelude.{◌≡◌, map, ◌<◌, length};
+ghost use Rattle.std.specs.Prelude.{◌≡◌, ◌<◌, length};
 ghost use Rattle.edge_table.specs.Table.{place_of, sure_at};
-ghost use Rattle.edge_batch.specs.Batch.{number_or, guess_of, is_past, number_for, sure_cut, sure_number, AtMost, each, sure, settled, settled_or, found_of};
+ghost use Rattle.edge_batch.specs.Batch.{guess_of, is_past, number_for, sure_cut, sure_number, AtMost, each, sure, settled, settled_or, found_of};
 
 use bins::RegularBinEdges;
-use edge_table::Table;
-use reducer::BuiltEdges;
+use edge_table::{Ends, NO_BIN, NOT_SETTLED, Table};
+use reducer::{BinEdges, BuiltEdges};
 
-fn number_of(bin: Option<usize>) -> usize
-    ensures { result ≡ number_or bin }
-{
-    bin.unwrap_or(4096)
+// Edges, their table, and hints made by it.
+#[derive(Clone, Copy)]
+pub struct Lookup<'a> {
+    pub edges: BuiltEdges<'a>,
+    pub table: Table,
+    pub hints: &'a [u8],
 }
+
+// Numbers below it are found: their bitwise or stays below it too.
+const SETTLED_LIMIT: usize = 8192;
 
 // ---- irregular edges, by hints
 
-// The values' places of hints: a loop of its own, with nothing but arithmetic, goes several values at a time.
-fn places_of(inside: bool, table: Table, x: &[f64], found: &mut [usize])
-    requires { length found.old ≡ length x.now }
-    ensures { found.new ≡ map (place_of inside table) x.now }
+// The values' places of hints: a loop of its own, with nothing but arithmetic. With options and one loop a batch takes 1.6 times as long (docs/SPEED.md).
+#[tactic(auto, using(crate::proofs::Loops::each_set, crate::proofs::Loops::each_done))]
+fn places_of<const INSIDE: bool>(table: Table, x: &[f64], found: &mut [usize])
+    ensures { found.new ≡ each (λ v n. place_of INSIDE table v) x.now found.old }
 {
-    for q in 0..x.len() {
-        found[q] = edge_table::place_of(inside, table, x[q]);
+    for q in 0..x.len().min(found.len()) {
+        found[q] = edge_table::place_of::<INSIDE>(table, x[q]);
     }
 }
 
-// found holds the places. What it returns is at least each number.
+// found holds the places. What is returned is at least each number.
+#[tactic(auto, using(crate::proofs::Loops::each_set, crate::proofs::Loops::each_done, crate::proofs::Loops::most_next))]
 fn sure_bins(list: &[f64], hints: &[u8], x: &[f64], found: &mut [usize]) -> usize
-    requires { length found.old ≡ length x.now }
-    ensures { (found.new ≡ each (sure_at list.now hints.now) x.now found.old) × AtMost result found.new }
+    ensures { (found.new ≡ each (sure_at list.now hints.now) x.now found.old) × AtMost result (length x.now) found.new }
 {
     let mut all = 0;
-    for q in 0..x.len() {
+    for q in 0..x.len().min(found.len()) {
         let bin = edge_table::sure_at(list, hints, x[q], found[q]);
         found[q] = bin;
         all = all | bin;
@@ -44,31 +51,28 @@ fn sure_bins(list: &[f64], hints: &[u8], x: &[f64], found: &mut [usize]) -> usiz
 // ---- regular edges, by guesses
 
 // Adding 2^31 leaves 21 bits of the fraction; the bits above them hold the whole number.
+#[tactic(auto, unfolding(crate::specs::Batch::guess_of))]
 fn guess_of(q: f64) -> usize
     ensures { (result ≡ guess_of q) × (result < 4096) }
 {
-    ((floats::to_bits(q + 2147483648.0) / 2097152) % 4096) as usize
+    ((std::num::f64_to_bits_with_nan(q + 2147483648.0) / 2097152) % 4096) as usize
 }
 
 // Past an end, unless it is known that no value is.
-fn is_past(inside: bool, e: RegularBinEdges, x: f64) -> bool
-    ensures { result ≡ is_past inside e x }
+#[tactic(auto, unfolding(crate::specs::Batch::is_past))]
+fn is_past<const INSIDE: bool>(e: RegularBinEdges, x: f64) -> bool
+    ensures { result ≡ is_past INSIDE e x }
 {
-    if inside {
-        return false;
-    }
-    if x < e.min {
-        return true;
-    }
-    e.max <= x
+    !INSIDE && bins::is_past(e.min, e.max, x)
 }
 
-// The quotient without its fraction; 4096 past an end.
-fn number_for(inside: bool, e: RegularBinEdges, x: f64) -> usize
-    ensures { result ≡ number_for inside e x }
+// The quotient without its fraction; 4096 past an end. Not by bin_index, which tests the ends also where no value is past one.
+#[tactic(auto, unfolding(crate::specs::Batch::number_for))]
+fn number_for<const INSIDE: bool>(e: RegularBinEdges, x: f64) -> usize
+    ensures { result ≡ number_for INSIDE e x }
 {
-    if is_past(inside, e, x) {
-        return 4096;
+    if is_past::<INSIDE>(e, x) {
+        return NO_BIN;
     }
     floats::as_usize((x - e.min) / e.bin_size)
 }
@@ -81,30 +85,30 @@ fn sure_cut(q: f64) -> usize
     let h = guess_of(q);
     let f = h as f64;
     let next = f + 1.0;
-    if f <= q {
-        if q < next {
-            return h;
-        }
-    }
-    usize::MAX
+    if f <= q && q < next { h } else { NOT_SETTLED }
 }
 
 // The same as number_for where a guess is right. The quotient is made first: what is left is a choice of two numbers, not a branch.
-fn sure_number(inside: bool, e: RegularBinEdges, x: f64) -> usize
-    ensures { result ≡ sure_number inside e x }
+#[tactic(auto, unfolding(crate::specs::Batch::sure_number))]
+fn sure_number<const INSIDE: bool>(e: RegularBinEdges, x: f64) -> usize
+    ensures { result ≡ sure_number INSIDE e x }
 {
     let number = sure_cut((x - e.min) / e.bin_size);
-    if is_past(inside, e, x) { 4096 } else { number }
+    if is_past::<INSIDE>(e, x) {
+        NO_BIN
+    } else {
+        number
+    }
 }
 
-// A loop of its own, with nothing but arithmetic, goes several values at a time. What it returns is at least each number.
-fn sure_numbers(inside: bool, e: RegularBinEdges, x: &[f64], found: &mut [usize]) -> usize
-    requires { length found.old ≡ length x.now }
-    ensures { (found.new ≡ map (sure_number inside e) x.now) × AtMost result found.new }
+// A loop of its own, with nothing but arithmetic. What is returned is at least each number.
+#[tactic(auto, using(crate::proofs::Loops::each_set, crate::proofs::Loops::each_done, crate::proofs::Loops::most_next))]
+fn sure_numbers<const INSIDE: bool>(e: RegularBinEdges, x: &[f64], found: &mut [usize]) -> usize
+    ensures { (found.new ≡ each (λ v n. sure_number INSIDE e v) x.now found.old) × AtMost result (length x.now) found.new }
 {
     let mut all = 0;
-    for q in 0..x.len() {
-        let number = sure_number(inside, e, x[q]);
+    for q in 0..x.len().min(found.len()) {
+        let number = sure_number::<INSIDE>(e, x[q]);
         found[q] = number;
         all = all | number;
     }
@@ -114,83 +118,62 @@ fn sure_numbers(inside: bool, e: RegularBinEdges, x: &[f64], found: &mut [usize]
 // ---- both
 
 // What the first loop finds.
-fn sure_of(
-    inside: bool,
-    edges: BuiltEdges,
-    list: &[f64],
-    hints: &[u8],
-    table: Table,
-    x: &[f64],
-    found: &mut [usize],
-) -> usize
-    requires { length found.old ≡ length x.now }
-    ensures { (found.new ≡ map (sure inside edges list.now hints.now table) x.now) × AtMost result found.new }
+fn sure_of<const INSIDE: bool>(look: Lookup, x: &[f64], found: &mut [usize]) -> usize
+    ensures { (found.new ≡ each (λ v n. sure INSIDE look.entry v) x.now found.old) × AtMost result (length x.now) found.new }
 {
-    match edges {
-        BuiltEdges::Regular(e) => sure_numbers(inside, e, x, found),
-        BuiltEdges::Irregular => {
-            places_of(inside, table, x, &mut *found);
-            sure_bins(list, hints, x, found)
+    match look.edges {
+        BinEdges::Regular(e) => sure_numbers::<INSIDE>(e, x, found),
+        BinEdges::Irregular(list) => {
+            places_of::<INSIDE>(look.table, x, &mut *found);
+            sure_bins(list, look.hints, x, found)
         }
     }
 }
 
-// A value's number by the edges alone. The search and the located bin are called here as well as in the lookup of one value: called there alone they would be inlined, and runs of few points take twice as long.
-fn settled_number(inside: bool, edges: BuiltEdges, list: &[f64], table: Table, x: f64) -> usize
-    ensures { result ≡ settled inside edges list.now table x }
+// A value's number by the edges alone. The search and the located bin are called here as well as in the lookup of one value: called there alone they would be
+// inlined, and runs of few points take twice as long.
+#[tactic(auto, unfolding(edge_table::specs::Table::located_bin))]
+fn settled_number<const INSIDE: bool>(edges: BuiltEdges, ends: Ends, x: f64) -> usize
+    ensures { result ≡ settled INSIDE edges.entry ends x }
 {
     match edges {
-        BuiltEdges::Regular(e) => number_for(inside, e, x),
-        BuiltEdges::Irregular => {
-            if edge_table::flag(table, x) == 0 {
-                return 4096;
+        BinEdges::Regular(e) => number_for::<INSIDE>(e, x),
+        BinEdges::Irregular(list) => {
+            if !ends.is_within(x) {
+                return NO_BIN;
             }
             let h = edge_table::locate(list, x);
             if edge_table::is_shown(list, x, h) {
                 return h;
             }
-            number_of(edge_table::located_bin(list, x))
+            edge_table::located_bin(list, x).unwrap_or(NO_BIN)
         }
     }
 }
 
 // Finds what is marked.
-fn settle(
-    inside: bool,
-    edges: BuiltEdges,
-    list: &[f64],
-    table: Table,
-    x: &[f64],
-    found: &mut [usize],
-)
-    requires { length found.old ≡ length x.now }
-    ensures { found.new ≡ each (settled_or inside edges list.now table) x.now found.old }
+#[tactic(auto, using(crate::proofs::Loops::each_next, crate::proofs::Loops::each_kept, crate::proofs::Loops::each_done), unfolding(crate::specs::Batch::settled_or))]
+fn settle<const INSIDE: bool>(look: Lookup, x: &[f64], found: &mut [usize])
+    ensures { found.new ≡ each (settled_or INSIDE look.entry) x.now found.old }
 {
-    for q in 0..x.len() {
-        if found[q] >= 8192 {
-            found[q] = settled_number(inside, edges, list, table, x[q]);
+    for q in 0..x.len().min(found.len()) {
+        if found[q] >= SETTLED_LIMIT {
+            found[q] = settled_number::<INSIDE>(look.edges, look.table.ends, x[q]);
         }
     }
 }
 
 // The bin of each value, or a number past the bins where there is none. Nothing is done where the lengths differ.
-// inside: no value is past an end of the edges; of regular ones such a value has any number.
-pub fn bins_of(
-    inside: bool,
-    edges: BuiltEdges,
-    list: &[f64],
-    hints: &[u8],
-    table: Table,
-    x: &[f64],
-    found: &mut [usize],
-)
-    ensures { found.new ≡ found_of inside edges list.now hints.now table x.now found.old }
+// INSIDE: no value is past an end of the edges; of regular ones such a value has any number.
+#[tactic(auto, using(crate::proofs::Batch::found_settled), unfolding(crate::specs::Batch::found_of))]
+pub fn bins_of<const INSIDE: bool>(look: Lookup, x: &[f64], found: &mut [usize])
+    ensures { found.new ≡ found_of INSIDE look.entry x.now found.old }
 {
     if found.len() != x.len() {
         return;
     }
-    let all = sure_of(inside, edges, list, hints, table, x, &mut *found);
-    if all >= 8192 {
-        settle(inside, edges, list, table, x, found);
+    let all = sure_of::<INSIDE>(look, x, &mut *found);
+    if all >= SETTLED_LIMIT {
+        settle::<INSIDE>(look, x, found);
     }
 }

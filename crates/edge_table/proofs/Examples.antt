@@ -7,27 +7,32 @@ use lib.Dec.{T}
 use lib.Ieee
 use lib.Ieee.{Float, binary64, fits, of_bits, lt}
 use Rattle.definitions.specs.Lists.{at}
-use Rattle.reducer.specs.declared.BuiltEdges.TheVariants.{Irregular}
+use Rattle.reducer.specs.declared.BinEdges.TheVariants.{Irregular}
+use Rattle.reducer.specs.Readings.{BuiltEdges}
+use Rattle.reducer.specs.Usable.{Searchable}
 use Rattle.edge_table.specs.declared.Table.{Table}
 use Rattle.edge_table.specs.Table.{table_of}
-use Rattle.edge_table.specs.Tabled.{Searchable, Tabled}
+use Rattle.edge_table.specs.Tabled.{Tabled}
 use Rattle.edge_table.proofs.Lookup.{tabled}
 
-pub edges : List Float
-edges = of_bits binary64 0 ∷ of_bits binary64 0x3ff0_0000_0000_0000 ∷ []
+unfoldable pub list : List Float
+list = of_bits binary64 0 ∷ of_bits binary64 0x3ff0_0000_0000_0000 ∷ []
 
-pub searchable : Searchable edges
-unfolding edges of_bits Ieee.fits Ieee.lt
+pub searchable : Searchable list
+unfolding list of_bits Ieee.fits Ieee.lt
 searchable = record { held = held; two = omega arith; few = omega arith; finite = tt; increasing = tt }
   where
-    held : (i : ℕ) → T (fits binary64 (at edges i))
+    held : (i : ℕ) → T (fits binary64 (at list i))
     held zero = tt
     held (suc zero) = tt
     held (suc (suc i)) = tt
 
-pub table : Table
-table = table_of Irregular edges (of_bits binary64 0x407f_e000_0000_0000)
+pub edges : BuiltEdges
+edges = Irregular (record { ref_ptr = (0, 0); now = list })
 
-pub usable : Tabled Irregular edges table
-unfolding table
-usable = tabled edges (of_bits binary64 0x407f_e000_0000_0000) _ Irregular searchable refl
+pub table : Table
+table = table_of edges (of_bits binary64 0x407f_e000_0000_0000)
+
+pub usable : Tabled edges table.ends
+unfolding table edges
+usable = tabled edges (of_bits binary64 0x407f_e000_0000_0000) _ searchable refl

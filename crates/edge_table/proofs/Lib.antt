@@ -1,5 +1,3 @@
-pub mod Ways
-pub mod Tests
-pub mod Lookup
 pub mod Order
+pub mod Lookup
 pub mod Examples

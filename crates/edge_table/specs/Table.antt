@@ -1,42 +1,54 @@
 -- Lookups in edges by a table: what the functions return for any hints and table, also ones of other edges.
 use Rattle.std.specs.Prelude.{Option, None, Some}
-use Rattle.std.specs.Prelude.{List, Bool, true, false, cond, not, ◌&&◌, ◌||◌, ℕ, zero, suc, ◌+◌, ◌-◌, ◌*◌, ◌/◌, ◌%◌, ◌^◌, leb, ltb, eqb, length, get_or, set, Float}
+use Rattle.std.specs.Prelude.{List, ◌++◌, Bool, true, false, cond, not, ◌&&◌, ◌||◌, ℕ, zero, suc, ◌+◌, ◌-◌, ◌*◌, ◌/◌, ◌%◌, ◌^◌, min, leb, ltb, eqb, length, get_or, take, drop, replicate, Float}
 use Rattle.std.specs.Float.{binary64}
 use Rattle.std.specs.Float.Ieee.{add, sub, mul, div, lt, le, eq, ne, is_nan, of_bits, to_bits}
 use Rattle.definitions.specs.Lists.{at}
+use Rattle.definitions.specs.Bins.{irregular_index, below}
 use Rattle.floats.specs.Order.{order_key}
-use Rattle.reducer.specs.declared.BuiltEdges.{BuiltEdges}
-use Rattle.reducer.specs.declared.BuiltEdges.TheVariants.{Regular, Irregular}
-use Rattle.reducer.specs.declared.Reducer.{Reducer}
-use Rattle.reducer.specs.declared.Reducer.TheVariants.{Comp0Mean, ComponentSumMean, ComponentSumHistogram}
+use Rattle.reducer.specs.declared.BinEdges.TheVariants.{Regular, Irregular}
+use Rattle.reducer.specs.Readings.{BuiltEdges}
 use Rattle.reducer.specs.Consume.{built_bin}
+use Rattle.edge_table.specs.declared.Ends.{Ends}
 use Rattle.edge_table.specs.declared.Table.{Table}
 
--- ends of the edges; span is how many places of hints they take, the first value's after 2^52
-abbrev pub table_of : BuiltEdges → List Float → Float → Table
-table_of (Regular e) list span = record { first = e.min; last = e.max; scale = of_bits binary64 0; offset = of_bits binary64 0 }
-table_of Irregular list span =
-    let scale = div binary64 span (sub binary64 (at list (length list - 1)) (at list 0)) in
-    record { first = at list 0; last = at list (length list - 1); scale = scale; offset = sub binary64 (of_bits binary64 0x4330_0000_0000_0001) (mul binary64 (at list 0) scale) }
+-- ---- ends
+abbrev pub ends_of : BuiltEdges → Ends
+ends_of (Regular e) = record { first = e.min; last = e.max }
+ends_of (Irregular list) = record { first = at list.now 0; last = at list.now (length list.now - 1) }
+
+-- below the first or not below the last
+abbrev pub past_end : Ends → Float → Bool
+past_end ends x = lt x ends.first || le ends.last x
+
+-- the same, unless no value is
+abbrev pub is_past : Bool → Ends → Float → Bool
+is_past inside ends x = not inside && past_end ends x
+
+unfoldable pub outside_of : Ends → Float → Bool
+outside_of ends x = is_nan x || lt x ends.first || le ends.last x
+
+-- ---- tables
+-- span is how many places of hints the edges take, the first value's after 2^52
+abbrev pub table_of : BuiltEdges → Float → Table
+table_of (Regular e) span = record { ends = ends_of (Regular e); scale = of_bits binary64 0; offset = of_bits binary64 0 }
+table_of (Irregular list) span =
+    let ends = ends_of (Irregular list) in
+    let scale = div binary64 span (sub binary64 ends.last ends.first) in record { ends = ends; scale = scale; offset = sub binary64 (of_bits binary64 0x4330_0000_0000_0001) (mul binary64 ends.first scale) }
 
 -- ---- hints
 -- a place of hints: with 2^52 in the offset the sum is rounded to a whole number, which the low bits then hold
 unfoldable pub hint_place : Table → Float → ℕ
 hint_place table x = to_bits binary64 (add binary64 (mul binary64 x table.scale) table.offset) % 4096
 
--- the end of the places before q in a slice of m
-unfoldable pub end_of : ℕ → ℕ → ℕ
-end_of q m = cond (ltb q m) q m
-
--- b at n places from p on
+-- b at the places from p up to the end
 unfoldable pub spread : ℕ → ℕ → ℕ → List ℕ → List ℕ
-spread p b zero hints = hints
-spread p b (suc i) hints = set (spread p b i hints) (p + i) b
+spread p b end hints = take p hints ++ replicate (end - p) b ++ drop (p + (end - p)) hints
 
 -- bin b at the places from its lower edge's to its upper edge's, which the next bin then takes: an edge's place has the bin above it
 unfoldable pub bin_hinted : Table → List Float → ℕ → List ℕ → List ℕ
 bin_hinted table list b hints =
-    spread (hint_place table (at list b)) (b % 256) (end_of (hint_place table (at list (b + 1)) + 1) (length hints) - hint_place table (at list b)) hints
+    spread (hint_place table (at list b)) (b % 256) (min (hint_place table (at list (b + 1)) + 1) (length hints)) hints
 
 -- the first n bins
 unfoldable pub hints_of : Table → List Float → ℕ → List ℕ → List ℕ
@@ -44,9 +56,9 @@ hints_of table list zero hints = hints
 hints_of table list (suc b) hints = bin_hinted table list b (hints_of table list b hints)
 
 -- regular edges are found without hints
-abbrev pub hints_for : BuiltEdges → Table → List Float → List ℕ → List ℕ
-hints_for (Regular e) table list hints = hints
-hints_for Irregular table list hints = hints_of table list (length list - 1) hints
+abbrev pub hints_for : BuiltEdges → Table → List ℕ → List ℕ
+hints_for (Regular e) table hints = hints
+hints_for (Irregular list) table hints = hints_of table list.now (length list.now - 1) hints
 
 -- ---- lookups
 abbrev pub bit : Bool → ℕ
@@ -81,33 +93,26 @@ unfoldable pub located : List Float → Float → ℕ
 located list x =
     cond (leb (length list) 33) (climb list x 2 (climb list x 8 0) + step_up list x (climb list x 2 (climb list x 8 0) + 1) 1) (climb list x 1 (climb list x 4 (climb list x 16 (climb list x 64 0))))
 
+-- the plain lookup
+abbrev pub irregular_bin : List Float → Float → Option ℕ
+irregular_bin list x = below (length list - 1) (irregular_index list x)
+
 -- what the search by quarters finds, tested by the edges, then by the keys; else the plain lookup
 unfoldable pub located_bin : List Float → Float → Option ℕ
-located_bin list x = cond (shown list x (located list x)) (Some (located list x)) (cond (holds list x (located list x)) (Some (located list x)) (built_bin Irregular list x))
+located_bin list x = cond (shown list x (located list x)) (Some (located list x)) (cond (holds list x (located list x)) (Some (located list x)) (irregular_bin list x))
 
-unfoldable pub outside_of : Table → Float → Bool
-outside_of table x = is_nan x || lt x table.first || le table.last x
+unfoldable pub edge_bin : List Float → Ends → Float → Option ℕ
+edge_bin list ends x = cond (outside_of ends x) None (located_bin list x)
 
-unfoldable pub edge_bin : List Float → Table → Float → Option ℕ
-edge_bin list table x = cond (outside_of table x) None (located_bin list x)
-
-unfoldable pub table_bin : BuiltEdges → List Float → Table → Float → Option ℕ
-table_bin (Regular e) list table x = built_bin (Regular e) list x
-table_bin Irregular list table x = edge_bin list table x
+abbrev pub ends_bin : BuiltEdges → Ends → Float → Option ℕ
+ends_bin (Regular e) ends x = built_bin (Regular e) x
+ends_bin (Irregular list) ends x = edge_bin list.now ends x
 
 -- ---- hints tried
--- 1 where the value is past no end, else 0
-abbrev pub flag_of : Float → Float → Float → ℕ
-flag_of first last x = (1 - bit (lt x first)) * (1 - bit (le last x))
-
--- 1 where it is past one, unless no value is
-unfoldable pub past_end : Bool → Table → Float → ℕ
-past_end inside table x = cond inside 0 (1 - flag_of table.first table.last x)
-
 -- a value's place of hints, 4,096 more past the ends, and 8,192 more for a zero
 unfoldable pub place_of : Bool → Table → Float → ℕ
 place_of inside table x =
-    hint_place table x + (4096 * past_end inside table x + 8192 * bit (eq x (of_bits binary64 0)))
+    hint_place table x + (4096 * bit (is_past inside table.ends x) + 8192 * bit (eq x (of_bits binary64 0)))
 
 -- h, or the bin beside it to which the value points
 unfoldable pub near_hint : List Float → Float → ℕ → ℕ
@@ -117,18 +122,4 @@ near_hint list x h = cond (lt x (at list h)) (h - 1) (h + step_up list x (h + 1)
 unfoldable pub sure_at : List Float → List ℕ → Float → ℕ → ℕ
 sure_at list hints x p =
     let g = near_hint list x (get_or hints p 0) in
-    cond (ltb p (end_of 4096 (length hints))) (cond (enclosed list x g) g (2 ^ 64 - 1)) (cond (eqb (p / 4096) 1) 4096 (2 ^ 64 - 1))
-
--- ---- value edges, which a histogram has
-abbrev pub no_table : Table
-no_table = record { first = of_bits binary64 0; last = of_bits binary64 0; scale = of_bits binary64 0; offset = of_bits binary64 0 }
-
-abbrev pub value_table_of : Reducer → List Float → Float → Table
-value_table_of Comp0Mean list span = no_table
-value_table_of ComponentSumMean list span = no_table
-value_table_of (ComponentSumHistogram e) list span = table_of e list span
-
-abbrev pub value_hints_for : Reducer → Table → List Float → List ℕ → List ℕ
-value_hints_for Comp0Mean table list hints = hints
-value_hints_for ComponentSumMean table list hints = hints
-value_hints_for (ComponentSumHistogram e) table list hints = hints_for e table list hints
+    cond (ltb p (min (length hints) 4096)) (cond (enclosed list x g) g (2 ^ 64 - 1)) (cond (eqb (p / 4096) 1) 4096 (2 ^ 64 - 1))

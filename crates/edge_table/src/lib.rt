@@ -1,18 +1,46 @@
 // Lookups in edges by a table: of one value by a search by quarters, of many by hints that are made once. A guess is tested, so nothing rests on it.
 #![tactic(auto)]
 
-ghost use Rattle.std.specs.Prelude.{◌≡◌, ◌+◌, ◌-◌, ◌*◌, ◌≤◌, ◌<◌, length};
+ghost use Rattle.std.specs.Prelude.{◌≡◌, ◌+◌, ◌-◌, ◌*◌, ◌≤◌, ◌<◌, not, length};
 ghost use Rattle.definitions.specs.Lists.{at};
-ghost use Rattle.floats.specs.Order.{order_key};
-ghost use Rattle.edge_table.specs.Table.{table_of, place_of, hint_place, end_of, spread, bin_hinted, hints_of, hints_for, outside_of, edge_bin, table_bin, no_table, value_table_of, value_hints_for, enclosed, shown, holds, step_up, climb, located, located_bin, flag_of, past_end, near_hint, sure_at};
+ghost use Rattle.edge_table.specs.Table.{past_end, is_past, ends_of, table_of, place_of, hint_place, bin_hinted, hints_of, hints_for, outside_of, edge_bin, ends_bin, enclosed, shown, holds, step_up, climb, located, located_bin, near_hint, sure_at};
 
-use reducer::{BuiltEdges, Reducer};
+use reducer::{BinEdges, BuiltEdges};
 
-// Ends of the edges; a value's place of hints is scale times it plus offset.
+// Where there is no bin. Numbers, not options: a batch looked up and added takes 1.2 to 1.4 times as long with an enum, up to 1.8 times with `Option` and marks
+// (docs/SPEED.md).
+pub const NO_BIN: usize = 4096;
+
+// The number that stands for one not found yet.
+pub const NOT_SETTLED: usize = usize::MAX;
+
+// Ends of the edges: a value below the first or not below the last has no bin.
 #[derive(Clone, Copy)]
-pub struct Table {
+pub struct Ends {
     pub first: f64,
     pub last: f64,
+}
+
+impl Ends {
+    // Past no end; without a branch on the value.
+    pub fn is_within(self, value: f64) -> bool
+        ensures { result ≡ not (past_end self value) }
+    {
+        !bins::is_past(self.first, self.last, value)
+    }
+
+    // Past one, unless it is known that no value is.
+    fn is_past<const INSIDE: bool>(self, value: f64) -> bool
+        ensures { result ≡ is_past INSIDE self value }
+    {
+        !INSIDE && bins::is_past(self.first, self.last, value)
+    }
+}
+
+// The ends, and where a value's place of hints is: scale times it plus offset.
+#[derive(Clone, Copy)]
+pub struct Table {
+    pub ends: Ends,
     pub scale: f64,
     pub offset: f64,
 }
@@ -23,39 +51,41 @@ pub struct Table {
 fn edge_at(list: &[f64], i: usize) -> f64
     ensures { result ≡ at list.now i }
 {
-    if i < list.len() { list[i] } else { f64::NAN }
+    list.get(i).copied().unwrap_or(f64::NAN)
 }
 
-// The order key without a branch on the sign, which may change from value to value.
-fn key_of(x: f64) -> u64
-    ensures { result ≡ order_key x }
-{
-    let bits = floats::to_bits(x);
-    let low = bits % 0x8000_0000_0000_0000;
-    0x8000_0000_0000_0000 + low - (bits / 0x8000_0000_0000_0000) * (2 * low + 1)
-}
-
-// span is how many places of hints the edges take.
-pub fn table_of(edges: BuiltEdges, list: &[f64], span: f64) -> Table
-    ensures { result ≡ table_of edges list.now span }
+pub fn ends_of(edges: BuiltEdges) -> Ends
+    ensures { result ≡ ends_of edges.entry }
 {
     match edges {
-        BuiltEdges::Regular(e) => Table {
+        BinEdges::Regular(e) => Ends {
             first: e.min,
             last: e.max,
+        },
+        BinEdges::Irregular(list) => Ends {
+            first: edge_at(list, 0),
+            last: edge_at(list, list.len().saturating_sub(1)),
+        },
+    }
+}
+
+// span is how many places of hints the edges take. Regular ones take none: their zeros are what this function has always promised.
+pub fn table_of(edges: BuiltEdges, span: f64) -> Table
+    ensures { result ≡ table_of edges.entry span }
+{
+    let ends = ends_of(edges);
+    match edges {
+        BinEdges::Regular(_) => Table {
+            ends,
             scale: 0.0,
             offset: 0.0,
         },
-        BuiltEdges::Irregular => {
-            let n = reducer::n_bins(BuiltEdges::Irregular, list.len());
-            let first = edge_at(list, 0);
-            let last = edge_at(list, n);
-            let scale = span / (last - first);
+        BinEdges::Irregular(_) => {
+            let scale = span / (ends.last - ends.first);
             Table {
-                first,
-                last,
+                ends,
                 scale,
-                offset: 4503599627370497.0 - first * scale,
+                offset: 4503599627370497.0 - ends.first * scale,
             }
         }
     }
@@ -64,103 +94,78 @@ pub fn table_of(edges: BuiltEdges, list: &[f64], span: f64) -> Table
 // ---- hints
 
 // A place of hints. With 2^52 in the offset the sum is rounded to a whole number, which the low bits then hold.
+#[tactic(auto, unfolding(crate::specs::Table::hint_place))]
 fn hint_place(table: Table, value: f64) -> usize
     ensures { (result ≡ hint_place table value) × (result < 4096) }
 {
     let x = value * table.scale + table.offset;
-    (floats::to_bits(x) % 4096) as usize
-}
-
-fn end_of(q: usize, len: usize) -> usize
-    ensures { (result ≡ end_of q len) × (result ≤ len) }
-{
-    q.min(len)
-}
-
-// b at the places from p up to the end.
-fn spread_hint(p: usize, b: u8, end: usize, hints: &mut [u8])
-    requires { end ≤ length hints.old }
-    ensures { hints.new ≡ spread p b (end - p) hints.old }
-{
-    for i in p..end {
-        hints[i] = b;
-    }
+    (std::num::f64_to_bits_with_nan(x) % 4096) as usize
 }
 
 // Bin b at the places from its lower edge's to its upper edge's, which the next bin then takes: an edge's place has the bin above it.
+#[tactic(auto, unfolding(crate::specs::Table::bin_hinted, crate::specs::Table::spread))]
 fn hint_bin(list: &[f64], table: Table, b: usize, hints: &mut [u8])
     requires { b + 1 < length list.now }
     ensures { hints.new ≡ bin_hinted table list.now b hints.old }
 {
     let p = hint_place(table, list[b]);
     let q = hint_place(table, list[b + 1]);
-    let end = end_of(q + 1, hints.len());
-    spread_hint(p, (b % 256) as u8, end, hints);
+    let end = (q + 1).min(hints.len());
+    if p < end {
+        hints[p..end].fill((b % 256) as u8);
+    }
 }
 
+#[tactic(auto, unfolding(crate::specs::Table::hints_of))]
 fn hint_bins(list: &[f64], table: Table, hints: &mut [u8])
     ensures { hints.new ≡ hints_of table list.now (length list.now - 1) hints.old }
 {
-    let n = reducer::n_bins(BuiltEdges::Irregular, list.len());
-    for b in 0..n {
+    for b in 0..list.len().saturating_sub(1) {
         hint_bin(list, table, b, hints);
     }
 }
 
 // Regular edges are found without hints.
-pub fn fill_hints(edges: BuiltEdges, list: &[f64], table: Table, hints: &mut [u8])
-    ensures { hints.new ≡ hints_for edges table list.now hints.old }
+pub fn fill_hints(edges: BuiltEdges, table: Table, hints: &mut [u8])
+    ensures { hints.new ≡ hints_for edges.entry table hints.old }
 {
     match edges {
-        BuiltEdges::Regular(_) => {}
-        BuiltEdges::Irregular => hint_bins(list, table, hints),
+        BinEdges::Regular(_) => {}
+        BinEdges::Irregular(list) => hint_bins(list, table, hints),
     }
 }
 
 // ---- lookups
 
 // Not below the lower edge of bin h, and below its upper one.
+#[tactic(auto, unfolding(crate::specs::Table::enclosed))]
 fn is_enclosed(list: &[f64], x: f64, h: usize) -> bool
     ensures { result ≡ enclosed list.now x h }
 {
-    let n = reducer::n_bins(BuiltEdges::Irregular, list.len());
-    if h >= n {
-        return false;
-    }
-    if list[h] <= x {
-        return x < list[h + 1];
-    }
-    false
+    h < list.len().saturating_sub(1) && list[h] <= x && x < list[h + 1]
 }
 
 // The edges show that bin h holds x, if that is no zero.
+#[tactic(auto, unfolding(crate::specs::Table::shown))]
 pub fn is_shown(list: &[f64], x: f64, h: usize) -> bool
     ensures { result ≡ shown list.now x h }
 {
-    if x != 0.0 {
-        return is_enclosed(list, x, h);
-    }
-    false
+    x != 0.0 && is_enclosed(list, x, h)
 }
 
+#[tactic(auto, unfolding(crate::specs::Table::holds))]
 fn is_held(list: &[f64], x: f64, h: usize) -> bool
     ensures { result ≡ holds list.now x h }
 {
-    if x.is_nan() {
+    if x.is_nan() || h >= list.len().saturating_sub(1) {
         return false;
     }
-    let n = reducer::n_bins(BuiltEdges::Irregular, list.len());
-    if h >= n {
-        return false;
-    }
-    let key = key_of(x);
-    if key_of(list[h]) > key {
-        return false;
-    }
-    key < key_of(list[h + 1])
+    let key = floats::total_key(x);
+    floats::total_key(list[h]) <= key && key < floats::total_key(list[h + 1])
 }
 
 // w where edge i is not above x, else 0; without a branch on the value.
+#[tactic(auto, unfolding(crate::specs::Table::step_up))]
 fn step_up(list: &[f64], x: f64, i: usize, w: usize) -> usize
     ensures { (result ≡ step_up list.now x i w) × (result ≤ w) }
 {
@@ -169,6 +174,7 @@ fn step_up(list: &[f64], x: f64, i: usize, w: usize) -> usize
 }
 
 // One of four parts of w bins each from b on: three tests that do not wait for each other.
+#[tactic(auto, unfolding(crate::specs::Table::climb))]
 fn climb_by(list: &[f64], x: f64, w: usize, b: usize) -> usize
     requires { b + 3 * w ≤ 255 }
     ensures { (result ≡ climb list.now x w b) × (result ≤ b + 3 * w) }
@@ -179,7 +185,8 @@ fn climb_by(list: &[f64], x: f64, w: usize, b: usize) -> usize
     b + (p + q + r)
 }
 
-// The search by quarters: a guess.
+// The search by quarters: a guess. A value takes 8 ns among 32 bins and 14 among 256, by std's `partition_point` 32 and 55 (docs/SPEED.md).
+#[tactic(auto, unfolding(crate::specs::Table::located))]
 pub fn locate(list: &[f64], x: f64) -> usize
     ensures { (result ≡ located list.now x) × (result ≤ 255) }
 {
@@ -195,80 +202,59 @@ pub fn locate(list: &[f64], x: f64) -> usize
 }
 
 // The bin of a value that is past no end.
+#[tactic(auto, unfolding(crate::specs::Table::located_bin, reducer::specs::Consume::built_bin))]
 pub fn located_bin(list: &[f64], x: f64) -> Option<usize>
     ensures { result ≡ located_bin list.now x }
 {
     let h = locate(list, x);
-    if is_shown(list, x, h) {
+    if is_shown(list, x, h) || is_held(list, x, h) {
         return Some(h);
     }
-    if is_held(list, x, h) {
-        return Some(h);
-    }
-    reducer::bin_of(BuiltEdges::Irregular, list, x)
+    reducer::bin_of(BinEdges::Irregular(list), x)
 }
 
 // Whether the value has no bin: a NaN, or outside the ends.
-fn is_outside(table: Table, value: f64) -> bool
-    ensures { result ≡ outside_of table value }
+#[tactic(auto, unfolding(crate::specs::Table::outside_of))]
+fn is_outside(ends: Ends, value: f64) -> bool
+    ensures { result ≡ outside_of ends value }
 {
-    if value.is_nan() {
-        return true;
-    }
-    if value < table.first {
-        return true;
-    }
-    table.last <= value
+    value.is_nan() || !ends.is_within(value)
 }
 
 // The bin in irregular edges by the search.
-fn edge_bin(list: &[f64], table: Table, value: f64) -> Option<usize>
-    ensures { result ≡ edge_bin list.now table value }
+#[tactic(auto, unfolding(crate::specs::Table::edge_bin))]
+fn edge_bin(list: &[f64], ends: Ends, value: f64) -> Option<usize>
+    ensures { result ≡ edge_bin list.now ends value }
 {
-    if is_outside(table, value) {
+    if is_outside(ends, value) {
         return None;
     }
     located_bin(list, value)
 }
 
-// One bin by the table: the edges' own where the table is theirs.
-pub fn bin_of(edges: BuiltEdges, list: &[f64], table: Table, value: f64) -> Option<usize>
-    ensures { result ≡ table_bin edges list.now table value }
+// One bin without hints: the edges' own where the ends are theirs.
+pub fn bin_of(edges: BuiltEdges, ends: Ends, value: f64) -> Option<usize>
+    ensures { result ≡ ends_bin edges.entry ends value }
 {
     match edges {
-        BuiltEdges::Regular(_) => reducer::bin_of(edges, list, value),
-        BuiltEdges::Irregular => edge_bin(list, table, value),
+        BinEdges::Regular(_) => reducer::bin_of(edges, value),
+        BinEdges::Irregular(list) => edge_bin(list, ends, value),
     }
 }
 
 // ---- hints tried
 
-// 1 where the value is past no end, else 0; without a branch on the value.
-pub fn flag(table: Table, value: f64) -> usize
-    ensures { (result ≡ flag_of table.first table.last value) × (result ≤ 1) }
-{
-    (1 - ((value < table.first) as usize)) * (1 - ((table.last <= value) as usize))
-}
-
-// 1 where it is past one, unless it is known that no value is.
-fn past_end(inside: bool, table: Table, value: f64) -> usize
-    ensures { (result ≡ past_end inside table value) × (result ≤ 1) }
-{
-    if inside {
-        return 0;
-    }
-    1 - flag(table, value)
-}
-
 // A value's place of hints, 4,096 more past the ends, and 8,192 more for a zero, since two zeros that compare equal may stand on two sides of an edge.
-pub fn place_of(inside: bool, table: Table, value: f64) -> usize
-    ensures { result ≡ place_of inside table value }
+#[tactic(auto, unfolding(crate::specs::Table::place_of))]
+pub fn place_of<const INSIDE: bool>(table: Table, value: f64) -> usize
+    ensures { result ≡ place_of INSIDE table value }
 {
-    hint_place(table, value)
-        + (4096 * past_end(inside, table, value) + 8192 * ((value == 0.0) as usize))
+    let past = table.ends.is_past::<INSIDE>(value);
+    hint_place(table, value) + (4096 * (past as usize) + 8192 * ((value == 0.0) as usize))
 }
 
 // h, or the bin beside it to which the value points.
+#[tactic(auto, unfolding(crate::specs::Table::near_hint))]
 fn near_hint(list: &[f64], x: f64, h: usize) -> usize
     requires { h ≤ 255 }
     ensures { result ≡ near_hint list.now x h }
@@ -280,59 +266,23 @@ fn near_hint(list: &[f64], x: f64, h: usize) -> usize
     h + step_up(list, x, h + 1, 1)
 }
 
-// The bin of the hint at place p, or the one beside it, where the edges enclose the value; most lookups end at the first of the two. 4096 for a value past an end, and the largest usize where neither encloses it.
+// The bin of the hint at place p, or the one beside it, where the edges enclose the value; most lookups end at the first of the two.
+// NO_BIN for a value past an end, and NOT_SETTLED where neither encloses it.
+#[tactic(auto, using(crate::proofs::Lookup::near_enclosed), unfolding(crate::specs::Table::sure_at))]
 pub fn sure_at(list: &[f64], hints: &[u8], x: f64, p: usize) -> usize
     ensures { result ≡ sure_at list.now hints.now x p }
 {
-    if p >= end_of(4096, hints.len()) {
-        return if p / 4096 == 1 { 4096 } else { usize::MAX };
+    if p >= hints.len().min(4096) {
+        return if p / 4096 == 1 { NO_BIN } else { NOT_SETTLED };
     }
     let h = hints[p] as usize;
-    let n = reducer::n_bins(BuiltEdges::Irregular, list.len());
-    if h < n {
-        if list[h] <= x {
-            if x < list[h + 1] {
-                return h;
-            }
-        }
+    if is_enclosed(list, x, h) {
+        return h;
     }
     let g = near_hint(list, x, h);
     if is_enclosed(list, x, g) {
         g
     } else {
-        usize::MAX
-    }
-}
-
-// ---- value edges, which a mean has not
-
-pub fn value_table_of(reducer: Reducer, list: &[f64], span: f64) -> Table
-    ensures { result ≡ value_table_of reducer list.now span }
-{
-    match reducer {
-        Reducer::Comp0Mean => no_table(),
-        Reducer::ComponentSumMean => no_table(),
-        Reducer::ComponentSumHistogram(e) => table_of(e, list, span),
-    }
-}
-
-pub fn fill_value_hints(reducer: Reducer, list: &[f64], table: Table, hints: &mut [u8])
-    ensures { hints.new ≡ value_hints_for reducer table list.now hints.old }
-{
-    match reducer {
-        Reducer::Comp0Mean => {}
-        Reducer::ComponentSumMean => {}
-        Reducer::ComponentSumHistogram(e) => fill_hints(e, list, table, hints),
-    }
-}
-
-fn no_table() -> Table
-    ensures { result ≡ no_table }
-{
-    Table {
-        first: 0.0,
-        last: 0.0,
-        scale: 0.0,
-        offset: 0.0,
+        NOT_SETTLED
     }
 }

@@ -11,7 +11,7 @@ nan_is (inf s) h = absurd (true≢false (sym h))
 nan_is (fin s m e) h = absurd (true≢false (sym h))
 
 -- the library's word for it
-pub finite_same : (x : Float) → float_is_finite x ≡ finite x
+pub finite_same : (x : Float) → finite x ≡ float_is_finite x
 unfolding float_is_finite
 finite_same nan = refl
 finite_same (inf s) = refl

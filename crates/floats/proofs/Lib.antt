@@ -1,5 +1,3 @@
-pub mod Choice
 pub mod Laws
 pub mod Floor
 pub mod Keys
-pub mod Patterns

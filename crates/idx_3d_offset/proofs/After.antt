@@ -1,4 +1,4 @@
--- The next offset without division: after number i stands number i + 1 (`next_number`), so a walk from a sequence's first offset (`cross_first`, `auto_first`) meets each in order (`cross_next`, `auto_next`). Assumes nothing.
+-- The next offset without division: after number i stands number i + 1 (`next_number`), so a walk from a sequence's first offset (`cross_first`, `auto_first`) meets each in order (`cross_next`). Assumes nothing.
 use mathlib.Core.Path.{◌≡◌, refl, sym, ap, ◌∙◌}
 use Rattle.std.specs.Prelude.{Some}
 use Rattle.std.proofs.lemmas.Option.{same_Some}
@@ -147,13 +147,6 @@ module _ (a : Axes) where
         dy = (ap (λ (j : ℕ). sub_ℕ (j % axis_len a.y a.y) (a.y - 1)) r ∙ ap (λ (j : ℕ). sub_ℕ j (a.y - 1)) (digits_mod (a.z - 1) ly) ∙ self (a.y - 1)) t;
         dx = (ap (λ (j : ℕ). sub_ℕ (j % axis_len a.x a.x) (a.x - 1)) m ∙ ap (λ (j : ℕ). sub_ℕ j (a.x - 1)) (digits_mod row lx) ∙ self (a.x - 1)) t;
       }
-
-  pub auto_next : (i : ℕ) → i + 1 < length (auto_seq a) → (d : Idx3DOffset) → slice_get (auto_seq a) i ≡ Some d → slice_get (auto_seq a) (i + 1) ≡ Some (offset_after a a d)
-  auto_next i l d p =
-      let h = auto_fits a (i + 1) (length (auto_seq a)) refl l in
-      let e : d ≡ offset_number a a (middle_of a + 1 + i) = sym (same_Some _ _ (auto_number a h i (omega (arith, auto_length a h)) ∙ p)) in
-      let k : middle_of a + 1 + i + 1 ≡ middle_of a + 1 + (i + 1) = omega arith in
-      sym (auto_number a h (i + 1) (omega (arith, auto_length a h))) ∙ ap Some (ap (offset_number a a) (sym k) ∙ sym (next_number a a h h (middle_of a + 1 + i)) ∙ ap (offset_after a a) (sym e))
 
   pub auto_first : 0 < length (auto_seq a) → slice_get (auto_seq a) 0 ≡ Some (offset_after a a (record { dz = pos 0; dy = pos 0; dx = pos 0 }))
   auto_first l =

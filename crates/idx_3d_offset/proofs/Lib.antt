@@ -3,3 +3,5 @@ pub mod Ranges
 pub mod Table
 pub mod Sequence
 pub mod After
+pub mod Step
+pub mod Walk

@@ -1,70 +1,52 @@
 -- The cells of an axis that take part at an offset d, an i64 of any size: what the code's signed numbers are, as they are read back. Assumes nothing.
-use mathlib.Core.Path.{◌≡◌, refl, ap, ◌∙◌, subst}
-use mathlib.Core.Bool.{true, false, true≢false}
-use Prim.Native.Nat.{ℕ, suc, ◌+◌, ◌-◌, ◌<◌, ◌^◌, min}
+use mathlib.Core.Path.{◌≡◌, refl, ap, ◌∙◌}
+use Prim.Native.Nat.{ℕ, zero, suc, ◌-◌, ◌<◌, ◌^◌, min}
 use native.Mathlib.Omega.{arith}
 use lib.Dec.{T}
-use lib.IntN.{ℤ, pos, negsuc, nat_abs, ◌-ℤ◌}
-use lib.Signed.{mag, lt_z, non_neg}
+use lib.IntN.{ℤ, pos, negsuc, nat_abs}
+use lib.Signed.{non_neg}
+use Rattle.std.specs.Int.{int_min, int_max}
 use mir.Syntax.{w64}
 use mir.Val.{Fits, SFits, to_z, of_z}
 use mir.ValLaws.{to_z-of_z}
-use borrow.Author.Tests.{ltb-true}
+use borrow.Author.Tests.{lt-ltb}
 use Rattle.definitions.specs.Blocks.{start_a, start_b, count}
-use Rattle.idx_3d_offset.proofs.Signed.{sub_cases}
 
 module _ (d : ℤ) (f : SFits w64 d) where
   back : to_z w64 (of_z w64 d) ≡ d
   back = to_z-of_z w64 d f
 
--- -1 - d for a d below 0
-below : (d : ℤ) → lt_z d (pos 0) ≡ true → (negsuc 0 -ℤ d ≡ pos (mag d)) × (mag d + 1 ≡ start_a d) × (0 ≡ start_b d)
-below (pos n) h = absurd (omega (arith, ltb-true n 0 h))
-below (negsuc m) h = (sub_cases (λ z. z ≡ pos m) (suc m) 1 (λ l. absurd (omega arith)) (λ l. ap pos (omega arith)), omega arith, refl)
+-- the numbers of `min` and `max` with 0
+lower : (d : ℤ) → SFits w64 d → (nat_abs (int_min d (pos 0)) ≡ start_a d) × SFits w64 (int_min d (pos 0))
+lower (pos zero) f = (refl, f)
+lower (pos (suc n)) f = rw (lt-ltb 0 (suc n) (omega arith)) (refl, record { sfits = omega arith })
+lower (negsuc m) f = (refl, f)
 
-above : (d : ℤ) → lt_z d (pos 0) ≡ false → (d ≡ pos (start_b d)) × (0 ≡ start_a d)
-above (pos n) h = (refl, refl)
-above (negsuc m) h = absurd (true≢false h)
+upper : (d : ℤ) → SFits w64 d → (int_max d (pos 0) ≡ pos (start_b d)) × (start_b d < 2 ^ 63)
+upper (pos zero) f = (refl, f.sfits)
+upper (pos (suc n)) f = (rw (lt-ltb 0 (suc n) (omega arith)) refl, f.sfits)
+upper (negsuc m) f = (refl, omega arith)
 
--- d < 0
-module _ (d : ℤ) (f : SFits w64 d) (h : lt_z (to_z w64 (of_z w64 d)) (pos 0) ≡ true) where
-  lower : (negsuc 0 -ℤ d ≡ pos (mag d)) × (mag d + 1 ≡ start_a d) × (0 ≡ start_b d)
-  lower = below d (rw (back d f) at h)
+-- z is what a call answered
+module _ (d z : ℤ) (f : SFits w64 d) where
+  pub start_a_is : z ≡ int_min (to_z w64 (of_z w64 d)) (pos 0) → (r : ℕ) → r ≡ nat_abs (to_z w64 (of_z w64 z)) → r ≡ start_a d
+  start_a_is e r h =
+      let l = lower d f in
+      let k : z ≡ int_min d (pos 0) = e ∙ ap (λ (y : ℤ). int_min y (pos 0)) (back d f) in
+      h ∙ ap (λ (y : ℤ). nat_abs (to_z w64 (of_z w64 y))) k ∙ ap nat_abs (back (int_min d (pos 0)) l.1) ∙ l.0
 
-  less : negsuc 0 -ℤ to_z w64 (of_z w64 d) ≡ pos (mag d)
-  less = ap (λ (z : ℤ). negsuc 0 -ℤ z) (back d f) ∙ lower.0
+  module _ (e : z ≡ int_max (to_z w64 (of_z w64 d)) (pos 0)) where
+    greatest : to_z w64 (of_z w64 z) ≡ pos (start_b d)
+    greatest =
+        let u = upper d f in
+        let k : z ≡ pos (start_b d) = e ∙ ap (λ (y : ℤ). int_max y (pos 0)) (back d f) ∙ u.0 in
+        ap (λ (y : ℤ). to_z w64 (of_z w64 y)) k ∙ back (pos (start_b d)) (record { sfits = u.1 })
 
-  pub less_fits : SFits w64 (negsuc 0 -ℤ to_z w64 (of_z w64 d))
-  less_fits = rw less (record { sfits = f.sfits })
+    pub start_cast : T (non_neg (to_z w64 (of_z w64 z))) × Fits w64 (nat_abs (to_z w64 (of_z w64 z)))
+    start_cast = rw greatest (tt, record { fits = omega (arith, (upper d f).1) })
 
-  less_back : to_z w64 (of_z w64 (negsuc 0 -ℤ to_z w64 (of_z w64 d))) ≡ pos (mag d)
-  less_back = to_z-of_z w64 (negsuc 0 -ℤ to_z w64 (of_z w64 d)) less_fits ∙ less
-
-  pub less_cast : T (non_neg (to_z w64 (of_z w64 (negsuc 0 -ℤ to_z w64 (of_z w64 d))))) × Fits w64 (nat_abs (to_z w64 (of_z w64 (negsuc 0 -ℤ to_z w64 (of_z w64 d)))))
-  less_cast = rw less_back (tt, record { fits = omega (arith, f.sfits) })
-
-  pub less_small : nat_abs (to_z w64 (of_z w64 (negsuc 0 -ℤ to_z w64 (of_z w64 d)))) < 2 ^ 63
-  less_small = rw less_back f.sfits
-
-  pub start_a_below : nat_abs (to_z w64 (of_z w64 (negsuc 0 -ℤ to_z w64 (of_z w64 d)))) + 1 ≡ start_a d
-  start_a_below = rw less_back lower.1
-
-  pub start_b_below : 0 ≡ start_b d
-  start_b_below = lower.2
-
--- d from 0 on
-module _ (d : ℤ) (f : SFits w64 d) (h : lt_z (to_z w64 (of_z w64 d)) (pos 0) ≡ false) where
-  upper : (d ≡ pos (start_b d)) × (0 ≡ start_a d)
-  upper = above d (rw (back d f) at h)
-
-  pub start_cast : T (non_neg (to_z w64 (of_z w64 d))) × Fits w64 (nat_abs (to_z w64 (of_z w64 d)))
-  start_cast = rw (back d f ∙ upper.0) (tt, record { fits = omega (arith, subst (λ (z : ℤ). mag z < 2 ^ 63) upper.0 f.sfits) })
-
-  pub start_b_above : nat_abs (to_z w64 (of_z w64 d)) ≡ start_b d
-  start_b_above = ap nat_abs (back d f ∙ upper.0)
-
-  pub start_a_above : 0 ≡ start_a d
-  start_a_above = upper.1
+    pub start_b_is : nat_abs (to_z w64 (of_z w64 z)) ≡ start_b d
+    start_b_is = ap nat_abs greatest
 
 -- both signs by one rule
 both : (d : ℤ) (a b : ℕ) → min (a - start_a d) (b - start_b d) ≡ count a b d

@@ -34,7 +34,7 @@ sub_is : (m n : ℕ) → pos m -ℤ pos n ≡ sub_ℕ m n
 sub_is m zero = sub_cases (λ z. pos (m + 0) ≡ z) m 0 (λ h. absurd (omega arith)) (λ h. ap pos (omega arith))
 sub_is m (suc n) = refl
 
-sub_mag : (m n : ℕ) → mag (sub_ℕ m n) ≤ m + n
+pub sub_mag : (m n : ℕ) → mag (sub_ℕ m n) ≤ m + n
 sub_mag m n = sub_cases (λ z. mag z ≤ m + n) m n (λ h. omega arith) (λ h. omega arith)
 
 sum_mag : (m : ℕ) (z : ℤ) → mag (pos m +ℤ z) ≤ m + suc (mag z)
@@ -42,7 +42,7 @@ sum_mag m (pos n) = omega arith
 sum_mag m (negsuc n) = sub_mag m (suc n)
 
 module _ (w : Width) (wide : T (ltb 4_194_304 (2 ^ hbits w))) where
-  small : (z : ℤ) → mag z ≤ 4_194_304 → SFits w z
+  pub small : (z : ℤ) → mag z ≤ 4_194_304 → SFits w z
   small z h = record { sfits = omega (arith, ltb→lt 4_194_304 (2 ^ hbits w) wide) }
 
   pub held : {z : ℤ} {n : ℕ} → Counts z n → Counts (to_z w (of_z w z)) n

@@ -1,6 +1,7 @@
 -- The sequences of offsets, and what the crate's answers stand for. Definitions only.
 use Rattle.std.specs.Prelude.{◌≡◌, List, [], ◌∷◌, Bool, not, cond, ◌&&◌, ℕ, ◌+◌, ◌-◌, ◌*◌, ◌/◌, ◌%◌, ◌≤◌, ◌<◌, leb, eqb, ℤ, pos, ◌+ℤ◌}
-use Rattle.std.specs.Prelude.{Option, None, Some}
+use Rattle.std.specs.Prelude.{Option, None, Some, length, slice_get}
+use Rattle.std.proofs.Props.{props}
 use Rattle.std.proofs.Math.IntN.{sub_ℕ}
 use Rattle.std.specs.Int.Signed.{lt_z}
 use Rattle.definitions.specs.Blocks as blocks
@@ -85,8 +86,27 @@ offset_number a b i =
 abbrev pub lowest : ℕ → ℤ
 lowest n = sub_ℕ 0 (n - 1)
 
+-- the lowest offset of a block with these axes
+abbrev pub lowest_offset : Axes → blocks.Idx3DOffset
+lowest_offset a = record { dz = lowest a.z; dy = lowest a.y; dx = lowest a.x }
+
 -- the offset after d: x fastest; an axis that is past its highest starts at its lowest again
 unfoldable pub offset_after : Axes → Axes → blocks.Idx3DOffset → blocks.Idx3DOffset
 offset_after a b d =
     cond (lt_z (d.dx +ℤ pos 1) (pos b.x)) (record { dz = d.dz; dy = d.dy; dx = d.dx +ℤ pos 1 })
     (cond (lt_z (d.dy +ℤ pos 1) (pos b.y)) (record { dz = d.dz; dy = d.dy +ℤ pos 1; dx = lowest a.x }) (record { dz = d.dz +ℤ pos 1; dy = lowest a.y; dx = lowest a.x }))
+
+-- an offset within the reach of two blocks whose axes fit
+pub record Inside (a b : Axes) (d : blocks.Idx3DOffset) : Type 0 where
+  pub first : Walkable a
+  pub second : Walkable b
+  pub reach : Reach a b d
+
+-- the next of all offsets, of which so many are left with it
+pub record Next (a b : Axes) (next : Option Idx3DOffset) (left : ℕ) : Type 0 where
+  pub few : left ≤ length (cross_seq a b)
+  pub is : offset_of next ≡ slice_get (cross_seq a b) (length (cross_seq a b) - left)
+
+-- it has one proof at most
+pub Next-prop : (a b : Axes) (next : Option Idx3DOffset) (left : ℕ) → IsProp (Next a b next left)
+Next-prop a b next left = Prim.hlevel props

@@ -58,7 +58,7 @@ unfolding round
 round_minus s n c p h =
     let one : 1 ≤ n * 2 ^ 1074 / c = (le-div_iff_mul-le p).1 (le_trans (le_of_eq (one-mul c)) h) in
     let k = size (n * 2 ^ 1074 / c) - 53 in
-    let Some : 0 < size (n * 2 ^ 1074 / c) = positive (size (n * 2 ^ 1074 / c)) (n * 2 ^ 1074 / c) one (size-lt (n * 2 ^ 1074 / c)) in
+    let some : 0 < size (n * 2 ^ 1074 / c) = positive (size (n * 2 ^ 1074 / c)) (n * 2 ^ 1074 / c) one (size-lt (n * 2 ^ 1074 / c)) in
     let r : 2 ^ k ≤ n * 2 ^ 1074 / c = size_reaches (n * 2 ^ 1074 / c) k (omega arith) in
     let u : c * 2 ^ k ≤ n * 2 ^ 1074 = le_trans (le_of_eq (mul_comm c (2 ^ k))) ((le-div_iff_mul-le p).0 r) in
     let q : 1 ≤ n * 2 ^ 1074 / (c * 2 ^ k) = (le-div_iff_mul-le (mul-pos p (pow_pos k))).1 (le_trans (le_of_eq (one-mul (c * 2 ^ k))) u) in

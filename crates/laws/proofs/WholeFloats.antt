@@ -51,10 +51,10 @@ same_signed s n z e h = go s n h ∙ ap (λ (k : ℤ). of_int binary64 k) e
   where
     go : (s : Bool) (n : ℕ) → (T s → 0 < n) → round binary64 s n 1 ≡ of_int binary64 (signed s n)
     go false n h = refl
-    go true zero h = absurd (None (h tt))
+    go true zero h = absurd (none (h tt))
       where
-        None : 0 < 0 → ⊥
-        None l = omega arith
+        none : 0 < 0 → ⊥
+        none l = omega arith
     go true (suc n) h = refl
 
 -- canonical: of the floats that are z only one is not -0.0

@@ -157,10 +157,10 @@ pub cut_blind : (w : ℕ) (k y : Float) → to_unsigned w (div binary64 (sub bin
 unfolding sub
 cut_blind w nan y = refl
 cut_blind w (inf t) y = refl
-cut_blind w (fin t zero e) y = None true ∙ sym (None false)
+cut_blind w (fin t zero e) y = none true ∙ sym (none false)
   where
-    None : (s : Bool) → to_unsigned w (div binary64 (sub binary64 (zero_f s) (fin t zero e)) y) ≡ 0
-    None s =
+    none : (s : Bool) → to_unsigned w (div binary64 (sub binary64 (zero_f s) (fin t zero e)) y) ≡ 0
+    none s =
         let z = sum_zeros s (not t) (1 * down e) (rw (one-mul (down e)) (down_pos e)) in
         rw (zero-mul (down e), mul-one (zero * up e), zero-mul (up e), z.1) (cut_div w y z.0)
 cut_blind w (fin t (suc n) e) y = ap (λ (v : Float). to_unsigned w (div binary64 v y)) (both true ∙ sym (both false))

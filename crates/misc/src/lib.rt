@@ -10,6 +10,7 @@ ghost use Rattle.refusals.specs.Numbers.{number_of};
 use refusals::Refusal;
 
 // The bounds of one of n_segments segments of n_indices indices: the sizes differ by at most one, and the longer segments come first.
+#[tactic(auto, unfolding(definitions::specs::Segments::segment_start))]
 pub fn segment_idx_bounds(
     n_indices: usize,
     seg_index: usize,
@@ -28,15 +29,10 @@ pub fn segment_idx_bounds(
 }
 
 // Where segment i of k starts: after i quotients, and one index more for each longer segment before it. For i = k it is the end.
+#[tactic(auto, using(crate::proofs::Segments::start_closed, crate::proofs::Segments::start_within))]
 fn segment_start(n: usize, k: usize, i: usize) -> usize
     requires { (0 < k) × (i ≤ k) }
     ensures { result ≡ segment_start n k i }
 {
-    let remainder = n % k;
-    let quotients = i * (n / k);
-    if i < remainder {
-        quotients + i
-    } else {
-        quotients + remainder
-    }
+    i * (n / k) + i.min(n % k)
 }

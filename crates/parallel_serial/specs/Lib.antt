@@ -1,1 +1,4 @@
 pub mod Drive
+pub mod Sets
+pub mod Setups
+pub mod Usable

@@ -1,55 +1,71 @@
-// What the runs share of drive_reduce: the shape, what is built of edges and kinds, the scratch pack and its addition to the caller's.
+// What the runs share of drive_reduce: what a caller states, what is built of it, the scratch pack and its addition to the caller's.
 #![tactic(auto)]
 
 ghost use Rattle.std.specs.Prelude.{◌≡◌, ◌+◌, ◌-◌, ◌<◌, ◌≤◌, length};
 ghost use Rattle.std.specs.Float.{binary64};
 ghost use Rattle.std.specs.Float.Ieee.{add};
 ghost use Rattle.definitions.specs.Lists.{at};
-ghost use Rattle.parallel_serial.specs.Drive.{summed, added_scratch, built_edges, built_reducer};
+ghost use Rattle.parallel_serial.specs.Drive.{summed, added_scratch};
+ghost use Rattle.parallel_serial.specs.Sets.{first_of, second_of};
+ghost use Rattle.parallel_serial.specs.Usable.{UsableRun, UsableRun-prop};
 
-use bins::RegularBinEdges;
-use reducer::{BuiltEdges, Edges, Kind, PairOperation, Reducer};
+use reducer::{BuiltEdges, BuiltReducer, Edges, Kind, PairOperation};
+use state_refusals::PackShape;
 
 // The pack's shape as the caller states it, and the team.
 #[derive(Clone, Copy)]
 pub struct Shape {
-    pub n_states: usize,
-    pub state_size: usize,
+    pub pack: PackShape,
     pub members: usize,
     pub teams: usize,
 }
 
-// What is the same for each pair of a run.
+// What a run pairs: the members of one set with each other, or those of a with those of b.
 #[derive(Clone, Copy)]
-pub struct Setup {
+pub enum Sets<S> {
+    Auto(S),
+    Cross(S, S),
+}
+
+impl<S: Copy> Sets<S> {
+    // The set of a pair's first member.
+    pub fn first(self) -> S
+        ensures { result ≡ first_of self }
+    {
+        match self {
+            Sets::Auto(a) => a,
+            Sets::Cross(a, _) => a,
+        }
+    }
+
+    // The set of its second member.
+    pub fn second(self) -> S
+        ensures { result ≡ second_of self }
+    {
+        match self {
+            Sets::Auto(a) => a,
+            Sets::Cross(_, b) => b,
+        }
+    }
+}
+
+// What a caller states of a run beside its sets.
+#[derive(Clone, Copy)]
+pub struct RunSpec<'a> {
+    pub edges: Edges<'a>,
+    pub kind: Kind<'a>,
     pub op: PairOperation,
-    pub edges: BuiltEdges,
-    pub reducer: Reducer,
+    pub shape: Shape,
+}
+
+// What is the same for each pair of a run: edges and a reducer that are built of accepted ones, and as many states as there are bins.
+#[derive(Clone, Copy)]
+pub struct Setup<'a> {
+    pub op: PairOperation,
+    pub edges: BuiltEdges<'a>,
+    pub reducer: BuiltReducer<'a>,
     pub n_states: usize,
-}
-
-// ---- what is built once for a run
-
-pub fn build_edges(edges: Edges) -> BuiltEdges
-    ensures { result ≡ built_edges edges }
-{
-    match edges {
-        Edges::Regular(min, max, n) => match RegularBinEdges::new(min, max, n) {
-            Ok(e) => BuiltEdges::Regular(e),
-            Err(_) => BuiltEdges::Irregular,
-        },
-        Edges::Irregular => BuiltEdges::Irregular,
-    }
-}
-
-pub fn build_reducer(kind: Kind) -> Reducer
-    ensures { result ≡ built_reducer kind }
-{
-    match kind {
-        Kind::Comp0Mean => Reducer::Comp0Mean,
-        Kind::ComponentSumMean => Reducer::ComponentSumMean,
-        Kind::ComponentSumHistogram(e) => Reducer::ComponentSumHistogram(build_edges(e)),
-    }
+    ghost usable: { UsableRun edges reducer n_states } by { UsableRun-prop edges reducer n_states },
 }
 
 // ---- scratch
@@ -61,7 +77,8 @@ fn sum_at(scratch: &[f64], pack: &[f64], i: usize) -> f64
     pack[i] + scratch[i]
 }
 
-// Two numbers of scratch, from i on, are added to the pack's. Both sums come first, so that they are one vector addition.
+// Two numbers of scratch, from i on, are added to the pack's, both sums first.
+// The lengths stand in each of these contracts: parts of a fixed length would be cut anew for each call.
 fn add_two(scratch: &[f64], pack: &mut [f64], i: usize)
     requires { (i + 2 ≤ length scratch.now) × (length scratch.now ≤ length pack.old) }
     ensures { pack.new ≡ summed scratch.now i 2 pack.old }
@@ -82,7 +99,7 @@ fn add_eight(scratch: &[f64], pack: &mut [f64], i: usize)
     add_two(scratch, &mut *pack, i + 6);
 }
 
-// A long block without a loop: in a short loop each load is guessed to wait for a sum just stored, which costs more than the additions.
+// A long block without a loop: with one, a call of 2 points took some 15 ns longer and missed the bar of 1.1 times the tightest Rust (docs/DECISIONS.md).
 fn add_block(scratch: &[f64], pack: &mut [f64], i: usize)
     requires { (i + 32 ≤ length scratch.now) × (length scratch.now ≤ length pack.old) }
     ensures { pack.new ≡ summed scratch.now i 32 pack.old }

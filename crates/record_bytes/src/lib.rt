@@ -23,7 +23,7 @@ fn float_at(b: &[u8], k: usize) -> f64
     ensures { result ≡ float_at b.now k }
 {
     let bytes = <[u8; 8]>::try_from(&b[k..k + 8]).unwrap();
-    floats::from_bits(u64::from_le_bytes(bytes))
+    std::num::f64_from_bits_with_nan(u64::from_le_bytes(bytes))
 }
 
 // The number's eight bytes, the lowest first.
@@ -31,7 +31,7 @@ fn store_float(b: &mut [u8], x: f64)
     requires { length b.old ≡ 8 }
     ensures { b.new ≡ number_bytes x }
 {
-    b.copy_from_slice(&floats::to_bits(x).to_le_bytes());
+    b.copy_from_slice(&std::num::f64_to_bits_with_nan(x).to_le_bytes());
 }
 
 // ---- records
@@ -41,6 +41,7 @@ fn decode(b: &[u8], size: usize, first: usize, out: &mut [f64])
     requires { (first + 8 ≤ size) × (length out.old * size < 2 ^ 63) × (length out.old * size ≤ length b.now) }
     ensures { out.new ≡ numbers size first (length out.old) b.now }
 {
+    // Not `zip` with `chunks_exact`: of numbers that another adapter of `iter_mut` lends, a proof knows nothing after the loop.
     for (i, x) in out.iter_mut().enumerate() {
         *x = float_at(b, i * size + first);
     }
@@ -70,6 +71,7 @@ fn encode(pack: &[f64], n: usize, b: &mut [u8])
     requires { (n * 2 ≤ length pack.now) × (n * 16 ≤ length b.old) }
     ensures { b.new ≡ stored 0 (curve_records n n pack.now) b.old }
 {
+    // Not `chunks_exact_mut`: of the bytes that it lends, a proof knows nothing after the loop.
     for s in 0..n {
         encode_bin(&mut b[s * 16..(s + 1) * 16], pack[s], pack[n + s]);
     }

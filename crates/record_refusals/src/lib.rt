@@ -8,10 +8,10 @@ ghost use Rattle.refusals.specs.Numbers.{number_of};
 ghost use Rattle.record_refusals.specs.Answers.{curve_number, zero_edges};
 
 use record_bytes::{EDGE_BYTES, MAX_EDGES, MAX_POINTS, POINT_BYTES};
-use reducer::Edges;
+use reducer::BinEdges;
 use refusals::Refusal;
 
-// Room for the edges of a file.
+// Room for the edges of a file: zeros that also promise their length, which the parts cut from it ask for.
 #[tactic(auto, unfolding(crate::specs::Answers::zero_edges))]
 pub fn edge_numbers() -> [f64; 257]
     ensures { (result ≡ zero_edges) × (257 ≡ length result) }
@@ -27,7 +27,8 @@ fn edges_refusal(edges: &[u8]) -> Result<(), Refusal>
     let n = edges.len() / EDGE_BYTES;
     let mut list = edge_numbers();
     record_bytes::decode_edges(edges, &mut list);
-    run_refusals::edges_refusal(Edges::Irregular, &list[..n])
+    run_refusals::accepted_edges(BinEdges::Irregular(&list[..n]))?;
+    Ok(())
 }
 
 // 7; 27, points first; points; edges.

@@ -2,19 +2,20 @@
 use mathlib.Core.Path.{◌≡◌, sym, ap, ◌∙◌}
 use mathlib.Core.Bool.{false}
 use mathlib.Core.List.{List}
-use Prim.Native.Nat.{ℕ, ◌*◌, ◌/◌, ◌≤◌}
+use Prim.Native.Nat.{ℕ, ◌-◌, ◌*◌, ◌/◌, ◌≤◌}
 use native.Mathlib.Omega.{arith}
 use lib.ListN.{length, take, replicate, length-replicate}
 use lib.Ieee.{Float}
 use Rattle.definitions.specs.Floats.{zero_f}
-use Rattle.definitions.specs.Bins.{bins, irregular}
+use Rattle.definitions.specs.Bins.{bins}
 use Rattle.definitions.specs.Rules.{step}
 use Rattle.definitions.specs.Records.{column, curve_bins, entry_run, curve_pack}
 use Rattle.reducer.specs.declared.PairOperation.TheVariants.{ElementwiseMultiply}
-use Rattle.reducer.specs.declared.Edges.TheVariants.{Irregular}
-use Rattle.reducer.specs.declared.Kind.TheVariants.{ComponentSumMean}
+use Rattle.reducer.specs.declared.BinEdges.TheVariants.{Irregular}
+use Rattle.reducer.specs.declared.Reducer.TheVariants.{ComponentSumMean}
+use Rattle.std.specs.Borrow.{Bor}
 use Rattle.std.specs.Prelude.{Some}
-use Rattle.parallel_serial.specs.Drive.{sets_run}
+use Rattle.parallel_serial.specs.Drive.{run_of}
 use Rattle.unstructured.specs.Readings.{auto_run}
 use Rattle.record_bytes.specs.Stores.{stored}
 use Rattle.record_bytes.specs.Columns.{numbers, three_numbers, edges_read, three_read, weights_read}
@@ -48,9 +49,9 @@ unfolding record_curve entry_run curve_pack
 files_curve p e z q pack r h l f g k = k ∙ (λ j. record_curve p (edges_decoded e h z q l f j) (g j))
 
 -- the run's parameters are the entry's
-pub listed_run : (n b : ℕ) (x y w list pack r : List Float) → b ≡ bins (irregular list)
-    → r ≡ step (auto_run (record { count = n; stated = Some n; positions = x; values = y; weights = w }) Irregular list ComponentSumMean list ElementwiseMultiply (record { n_states = b; state_size = 2; members = 1; teams = 1 })) pack
-    → r ≡ listed_curve n x y w list pack
-unfolding sets_run listed_curve
-listed_run n b x y w list pack r e f =
-    f ∙ ap (λ (k : ℕ). step (auto_run (record { count = n; stated = Some n; positions = x; values = y; weights = w }) Irregular list ComponentSumMean list ElementwiseMultiply (record { n_states = k; state_size = 2; members = 1; teams = 1 })) pack) e
+pub listed_run : (n b : ℕ) (x y w : List Float) (list : Bor (List Float)) (pack r : List Float) → b ≡ length list.now - 1
+    → r ≡ step (auto_run (record { count = n; stated = Some n; positions = x; values = y; weights = w })
+    (record { edges = Irregular list; kind = ComponentSumMean; op = ElementwiseMultiply; shape = record { pack = record { n_states = b; state_size = 2 }; members = 1; teams = 1 } })) pack
+    → r ≡ listed_curve n x y w list.now pack
+unfolding run_of bins listed_curve
+listed_run n b x y w list pack r e f = f ∙ (rw e)

@@ -10,10 +10,11 @@ ghost use Rattle.records.specs.Answers.{listed_curve, record_curve, file_read};
 ghost use Rattle.record_bytes.specs.Stores.{stored};
 ghost use Rattle.curve_text.specs.Text.{fitted};
 
-use parallel_serial::Shape;
+use parallel_serial::{RunSpec, Shape};
 use record_bytes::{EDGE_BYTES, POINT_BYTES};
-use reducer::{Edges, Kind, PairOperation};
+use reducer::{Bins, Edges, Kind, PairOperation};
 use refusals::Refusal;
+use state_refusals::PackShape;
 use unstructured_points::PointSet;
 
 // ---- the curve
@@ -36,23 +37,22 @@ fn run(positions: &[f64], values: &[f64], weights: &[f64], n: usize, list: &[f64
         n_points: n,
         stride: Some(n),
     };
-    let shape = Shape {
-        n_states: run_refusals::n_bins(Edges::Irregular, list),
-        state_size: 2,
-        members: 1,
-        teams: 1,
+    let edges = Edges::Irregular(list);
+    let spec = RunSpec {
+        edges,
+        kind: Kind::ComponentSumMean,
+        op: PairOperation::ElementwiseMultiply,
+        shape: Shape {
+            pack: PackShape {
+                n_states: edges.n_bins(),
+                state_size: 2,
+            },
+            members: 1,
+            teams: 1,
+        },
     };
-    // A mean has no value edges: the second list is not read. A refused run leaves the pack.
-    let _ = unstructured::points_auto(
-        set,
-        Edges::Irregular,
-        list,
-        Kind::ComponentSumMean,
-        list,
-        PairOperation::ElementwiseMultiply,
-        shape,
-        pack,
-    );
+    // A refused run leaves the pack.
+    let _ = unstructured::points_auto(set, spec, pack);
 }
 
 // The same over points as records.
@@ -75,7 +75,7 @@ fn run_records(points: &[u8], list: &[f64], pack: &mut [f64])
     );
 }
 
-// The curve's pack, from zeros.
+// The curve's pack, from zeros. Its two callers make the room: a function that made it would hand on an array of which the front alone is meant.
 fn fill_pack(points: &[u8], edges: &[u8], pack: &mut [f64])
     requires { (length points.now ≤ 57344) × (length edges.now ≤ 2056) × (pack.old ≡ replicate (curve_bins edges.now * 2) (zero_f false)) }
     ensures { pack.new ≡ curve_pack points.now edges.now }

@@ -1,10 +1,11 @@
 -- Each way through the code, and the definition that its answer meets.
 use mathlib.Core.Path.{◌≡◌, refl, sym, ap, subst, ◌∙◌}
 use Rattle.std.specs.Prelude.{Option, None, Some}
+use Rattle.std.specs.Bool.{then_some}
 use Rattle.std.proofs.lemmas.Option.{none-some, same_Some}
 use mathlib.Core.Bool.{Bool, true, false, cond, ◌&&◌, true≢false}
 use mathlib.Core.List.{List}
-use Prim.Native.Nat.{ℕ, ◌-◌, ◌*◌, ◌<◌, ◌≤◌}
+use Prim.Native.Nat.{ℕ, ◌*◌, ◌<◌, ◌≤◌}
 use native.Mathlib.Nat.{mul_comm, mul-le-mul, mul-le-mul_right, add-mul, one-mul}
 use native.Mathlib.Omega.{arith}
 use lib.Dec.{leb, ltb}
@@ -13,20 +14,16 @@ use lib.Ieee.{Float, binary64, sub, mul}
 use mir.Syntax.{w64}
 use mir.Val.{Fits}
 use borrow.Author.Tests.{lt-ltb, le-ltb, ltb-true, leb-true}
-use Rattle.definitions.specs.Bins.{regular_index, irregular_index, below}
+use Rattle.definitions.specs.Bins.{below}
 use Rattle.definitions.specs.Run.{place}
 use Rattle.definitions.specs.Reducer as definitions
 use Rattle.definitions.specs.Reducer.{datum_of, component_sum}
 use Rattle.laws.proofs.Places.{bump, add_mean, add_hist}
-use Rattle.bins.specs.declared.RegularBinEdges.{RegularBinEdges}
 use Rattle.reducer.specs.declared.PairOperation.{PairOperation}
 use Rattle.reducer.specs.declared.PairOperation.TheVariants.{ElementwiseMultiply, ElementwiseSub}
-use Rattle.reducer.specs.declared.BuiltEdges.{BuiltEdges}
-use Rattle.reducer.specs.declared.BuiltEdges.TheVariants.{Regular, Irregular}
-use Rattle.reducer.specs.declared.Reducer.{Reducer}
 use Rattle.reducer.specs.declared.Reducer.TheVariants.{Comp0Mean, ComponentSumMean, ComponentSumHistogram}
 use Rattle.reducer.specs.declared.Datum.{Datum}
-use Rattle.reducer.specs.Readings.{op_of, reading_of}
+use Rattle.reducer.specs.Readings.{BuiltEdges, BuiltReducer, op_of, reading_of}
 use Rattle.reducer.specs.Consume.{built_bins, built_find, built_bin, reducer_size, has_room, add_in, value_bin, added_at, consumed_at, consumed}
 
 -- ---- a mean's total and weight
@@ -44,37 +41,21 @@ module _ (op : PairOperation) (a b : Datum) where
   pub datum_sub : op ≡ ElementwiseSub → by (λ x y. sub binary64 y x) ≡ datum_of (op_of op) (reading_of a) (reading_of b)
   datum_sub m = rw m
 
--- ---- built edges
-module _ (edges : BuiltEdges) (m : ℕ) where
-  pub bins_regular : (e : RegularBinEdges) → edges ≡ Regular e → e.n_bins ≡ built_bins edges m
-  bins_regular e t = rw t
+-- ---- built edges; r is what the lookup found
+module _ (e : BuiltEdges) (x : Float) (r : Option ℕ) (q : r ≡ built_find e x) where
+  found : (o : Option ℕ) → r ≡ o → built_bin e x ≡ below (built_bins e) o
+  unfolding built_bin
+  found o t = rw (← q, t)
 
-  pub bins_irregular : edges ≡ Irregular → m - 1 ≡ built_bins edges m
-  bins_irregular t = rw t
+  pub bin_none : (o : Option ℕ) → r ≡ None → o ≡ None → o ≡ built_bin e x
+  bin_none o t h = h ∙ sym (found None t)
 
-module _ (edges : BuiltEdges) (list : List Float) (x : Float) (r : Option ℕ) where
-  pub find_regular : (e : RegularBinEdges) → edges ≡ Regular e → r ≡ regular_index e.min e.max e.bin_size x → r ≡ built_find edges list x
-  find_regular e t h = rw t h
-
-  pub find_irregular : edges ≡ Irregular → r ≡ irregular_index list x → r ≡ built_find edges list x
-  find_irregular t h = rw t h
-
-  module _ (n : ℕ) (q : n ≡ built_bins edges (length list)) (h : r ≡ built_find edges list x) where
-    found : (i : Option ℕ) → r ≡ i → built_bin edges list x ≡ below n i
-    unfolding built_bin
-    found i t = rw (← h, ← q, t)
-
-    pub bin_kept : (i : ℕ) → r ≡ Some i → i < n → Some i ≡ built_bin edges list x
-    bin_kept i t l = sym (found (Some i) t ∙ (rw (lt-ltb i n l)))
-
-    pub bin_past : (i : ℕ) → r ≡ Some i → n ≤ i → None ≡ built_bin edges list x
-    bin_past i t l = sym (found (Some i) t ∙ (rw (le-ltb i n l)))
-
-    pub bin_none : r ≡ None → None ≡ built_bin edges list x
-    bin_none t = sym (found None t)
-
-pub size_histogram : (r : Reducer) (e : BuiltEdges) (m n : ℕ) → r ≡ ComponentSumHistogram e → n ≡ built_bins e m → n ≡ reducer_size r m
-size_histogram r e m n t h = rw t h
+  pub bin_some : (i n : ℕ) (o : Option ℕ) → r ≡ Some i → n ≡ built_bins e → o ≡ then_some (ltb i n) i → o ≡ built_bin e x
+  bin_some i n o t m h = h ∙ go (ltb i n) refl
+    where
+      go : (b : Bool) → ltb i n ≡ b → then_some b i ≡ built_bin e x
+      go true b = sym (found (Some i) t ∙ (rw (← m, b)))
+      go false b = sym (found (Some i) t ∙ (rw (← m, b)))
 
 -- ---- room
 pub product_fits : (n m : ℕ) → n ≤ 4096 → m ≤ 4096 → Fits w64 (n * m)
@@ -121,8 +102,8 @@ module _ (n size s len : ℕ) (h : has_room n size s len ≡ true) where
   room_pack : n * size ≤ len
   room_pack = leb-true (n * size) len parts.1
 
-module _ (r : Reducer) (m : ℕ) (b : Option ℕ) (n s : ℕ) (d : definitions.Datum) (p : List Float) (size : ℕ) (z : size ≡ reducer_size r m) (o : Bool) (h : o ≡ has_room n size s (length p)) where
-  pub consumed_none : o ≡ false → p ≡ consumed_at r m b n s d p
+module _ (r : BuiltReducer) (b : Option ℕ) (n s : ℕ) (d : definitions.Datum) (p : List Float) (size : ℕ) (z : size ≡ reducer_size r) (o : Bool) (h : o ≡ has_room n size s (length p)) where
+  pub consumed_none : o ≡ false → p ≡ consumed_at r b n s d p
   unfolding consumed_at
   consumed_none t = rw (← z, ← h, t)
 
@@ -133,8 +114,8 @@ module _ (r : Reducer) (m : ℕ) (b : Option ℕ) (n s : ℕ) (d : definitions.D
     pub within : n * size ≤ length p
     within = room_pack n size s (length p) (sym h ∙ t)
 
-    two : (k : Reducer) → r ≡ k → reducer_size k m ≡ 2 → n * 2 ≤ length p
-    two k e f = subst (λ (a : ℕ). n * a ≤ length p) (z ∙ ap (λ (a : Reducer). reducer_size a m) e ∙ f) within
+    two : (k : BuiltReducer) → r ≡ k → reducer_size k ≡ 2 → n * 2 ≤ length p
+    two k e f = subst (λ (a : ℕ). n * a ≤ length p) (z ∙ ap reducer_size e ∙ f) within
 
     pub within_comp0 : r ≡ Comp0Mean → n * 2 ≤ length p
     within_comp0 e = two Comp0Mean e refl
@@ -143,31 +124,29 @@ module _ (r : Reducer) (m : ℕ) (b : Option ℕ) (n s : ℕ) (d : definitions.D
     within_sum e = two ComponentSumMean e refl
 
     module _ (q : List Float) where
-      by_reducer : (k : Reducer) → r ≡ k → q ≡ added_at k m b n s d p → q ≡ consumed_at r m b n s d p
+      by_reducer : (k : BuiltReducer) → r ≡ k → q ≡ added_at k b n s d p → q ≡ consumed_at r b n s d p
       unfolding consumed_at
       by_reducer k e f = f ∙ (rw (← z, ← h, t, e))
 
-      pub consumed_comp0 : r ≡ Comp0Mean → q ≡ add_mean n s d.c0 d.weight p → q ≡ consumed_at r m b n s d p
+      pub consumed_comp0 : r ≡ Comp0Mean → q ≡ add_mean n s d.c0 d.weight p → q ≡ consumed_at r b n s d p
       consumed_comp0 e f = by_reducer Comp0Mean e f
 
-      pub consumed_sum : (v : Float) → r ≡ ComponentSumMean → v ≡ component_sum d → q ≡ add_mean n s v d.weight p → q ≡ consumed_at r m b n s d p
+      pub consumed_sum : (v : Float) → r ≡ ComponentSumMean → v ≡ component_sum d → q ≡ add_mean n s v d.weight p → q ≡ consumed_at r b n s d p
       consumed_sum v e c f = by_reducer ComponentSumMean e (f ∙ ap (λ (x : Float). add_mean n s x d.weight p) c)
 
-      pub consumed_histogram : (k : BuiltEdges) → r ≡ ComponentSumHistogram k → q ≡ add_in (below size b) n s d.weight p → q ≡ consumed_at r m b n s d p
+      pub consumed_histogram : (k : BuiltEdges) → r ≡ ComponentSumHistogram k → q ≡ add_in (below size b) n s d.weight p → q ≡ consumed_at r b n s d p
       consumed_histogram k e f =
-          by_reducer (ComponentSumHistogram k) e (f ∙ ap (λ (a : ℕ). add_in (below a b) n s d.weight p) (z ∙ ap (λ (a : Reducer). reducer_size a m) e))
+          by_reducer (ComponentSumHistogram k) e (f ∙ ap (λ (a : ℕ). add_in (below a b) n s d.weight p) (z ∙ ap reducer_size e))
 
 -- ---- the value's bin
-module _ (r : Reducer) (list : List Float) (d : definitions.Datum) where
-  pub value_histogram : (k : BuiltEdges) (v : Float) (o : Option ℕ) → r ≡ ComponentSumHistogram k → v ≡ component_sum d → o ≡ built_bin k list v → o ≡ value_bin r list d
-  value_histogram k v o e c f = rw e (f ∙ ap (built_bin k list) c)
+pub value_histogram : (r : BuiltReducer) (d : definitions.Datum) (k : BuiltEdges) (v : Float) (o : Option ℕ) → r ≡ ComponentSumHistogram k → v ≡ component_sum d → o ≡ built_bin k v → o ≡ value_bin r d
+value_histogram r d k v o e c f = rw e (f ∙ ap (built_bin k) c)
 
-pub consumed_found : (r : Reducer) (list : List Float) (n s : ℕ) (d : definitions.Datum) (p : List Float) → consumed r list n s d p ≡ consumed_at r (length list) (value_bin r list d) n s d p
+pub consumed_found : (r : BuiltReducer) (n s : ℕ) (d : definitions.Datum) (p : List Float) → consumed r n s d p ≡ consumed_at r (value_bin r d) n s d p
 unfolding consumed
-consumed_found r list n s d p = refl
+consumed_found r n s d p = refl
 
 -- b is the bin found, q what `consume_at` left
-pub consumed_is : (r : Reducer) (list : List Float) (n s : ℕ) (d : definitions.Datum) (p q : List Float) (b : Option ℕ) → b ≡ value_bin r list d
-    → q ≡ consumed_at r (length list) b n s d p → q ≡ consumed r list n s d p
+pub consumed_is : (r : BuiltReducer) (n s : ℕ) (d : definitions.Datum) (p q : List Float) (b : Option ℕ) → b ≡ value_bin r d → q ≡ consumed_at r b n s d p → q ≡ consumed r n s d p
 unfolding consumed
-consumed_is r list n s d p q b e f = f ∙ ap (λ (o : Option ℕ). consumed_at r (length list) o n s d p) e
+consumed_is r n s d p q b e f = f ∙ ap (λ (o : Option ℕ). consumed_at r o n s d p) e

@@ -2,46 +2,58 @@
 use Rattle.std.specs.Prelude.{Option, None, Some}
 use Rattle.std.specs.Prelude.{List, Bool, cond, ◌&&◌, ℕ, ◌-◌, ◌*◌, leb, ltb, length, Float}
 use Rattle.definitions.specs.Bins.{regular_index, irregular_index, below}
-use Rattle.definitions.specs.Reducer.{Datum, component_sum}
+use Rattle.definitions.specs.Reducer.{Datum, component_sum, state_size}
 use Rattle.laws.proofs.Places.{add_mean, add_hist}
 use Rattle.bins.specs.Answers.{regular_of}
-use Rattle.reducer.specs.declared.Edges.{Edges}
-use Rattle.reducer.specs.declared.Edges.TheVariants as edges
-use Rattle.reducer.specs.declared.Kind.{Kind}
-use Rattle.reducer.specs.declared.Kind.TheVariants as kind
-use Rattle.reducer.specs.declared.BuiltEdges.{BuiltEdges}
-use Rattle.reducer.specs.declared.BuiltEdges.TheVariants.{Regular, Irregular}
+use Rattle.state_refusals.specs.declared.StateKind.{StateKind}
+use Rattle.state_refusals.specs.declared.StateKind.TheVariants.{Mean, Histogram}
+use Rattle.state_refusals.specs.Readings.{state_kind_of}
+use Rattle.reducer.specs.declared.BinEdges.{BinEdges}
+use Rattle.reducer.specs.declared.BinEdges.TheVariants.{Regular, Irregular}
 use Rattle.reducer.specs.declared.Reducer.{Reducer}
 use Rattle.reducer.specs.declared.Reducer.TheVariants.{Comp0Mean, ComponentSumMean, ComponentSumHistogram}
+use Rattle.reducer.specs.Readings.{Edges, BuiltEdges, Kind, BuiltReducer}
+
+-- how many bins edges have, where regular ones say it by f
+abbrev pub bins_in : {R : Type 0} → (R → ℕ) → BinEdges R → ℕ
+bins_in f (Regular e) = f e
+bins_in f (Irregular list) = length list.now - 1
+
+-- a mean, or a histogram of so many value bins
+abbrev pub state_kind_in : {E : Type 0} → (E → ℕ) → Reducer E → StateKind
+state_kind_in f Comp0Mean = Mean
+state_kind_in f ComponentSumMean = Mean
+state_kind_in f (ComponentSumHistogram e) = Histogram (f e)
+
+-- how many numbers a state has
+abbrev pub size_in : {E : Type 0} → (E → ℕ) → Reducer E → ℕ
+size_in f r = state_size (state_kind_of (state_kind_in f r))
 
 -- what is built of accepted edges, and of a kind with accepted value edges
 abbrev pub made_edges : Edges → BuiltEdges
-made_edges (edges.Regular min max n) = Regular (regular_of min max n)
-made_edges edges.Irregular = Irregular
+made_edges (Regular e) = Regular (regular_of e.min e.max e.n_bins)
+made_edges (Irregular list) = Irregular list
 
-abbrev pub made : Kind → Reducer
-made kind.Comp0Mean = Comp0Mean
-made kind.ComponentSumMean = ComponentSumMean
-made (kind.ComponentSumHistogram e) = ComponentSumHistogram (made_edges e)
+abbrev pub made : Kind → BuiltReducer
+made Comp0Mean = Comp0Mean
+made ComponentSumMean = ComponentSumMean
+made (ComponentSumHistogram e) = ComponentSumHistogram (made_edges e)
 
--- how many bins built edges have; m is the length of the slice beside them
-abbrev pub built_bins : BuiltEdges → ℕ → ℕ
-built_bins (Regular e) m = e.n_bins
-built_bins Irregular m = m - 1
+-- how many bins built edges have
+abbrev pub built_bins : BuiltEdges → ℕ
+built_bins e = bins_in (λ r. r.n_bins) e
 
 -- what a lookup in built edges returns
-abbrev pub built_find : BuiltEdges → List Float → Float → Option ℕ
-built_find (Regular e) list x = regular_index e.min e.max e.bin_size x
-built_find Irregular list x = irregular_index list x
+abbrev pub built_find : BuiltEdges → Float → Option ℕ
+built_find (Regular e) x = regular_index e.min e.max e.bin_size x
+built_find (Irregular list) x = irregular_index list.now x
 
 -- the bin; an index past the bins is dropped
-unfoldable pub built_bin : BuiltEdges → List Float → Float → Option ℕ
-built_bin e list x = below (built_bins e (length list)) (built_find e list x)
+unfoldable pub built_bin : BuiltEdges → Float → Option ℕ
+built_bin e x = below (built_bins e) (built_find e x)
 
-abbrev pub reducer_size : Reducer → ℕ → ℕ
-reducer_size Comp0Mean m = 2
-reducer_size ComponentSumMean m = 2
-reducer_size (ComponentSumHistogram e) m = built_bins e m
+abbrev pub reducer_size : BuiltReducer → ℕ
+reducer_size r = size_in built_bins r
 
 -- a slice of len numbers has room for state s of a pack of n states
 unfoldable pub has_room : ℕ → ℕ → ℕ → ℕ → Bool
@@ -53,21 +65,21 @@ add_in None n s w pack = pack
 add_in (Some b) n s w pack = add_hist n s b w pack
 
 -- the bin of a datum's value; a mean needs none
-abbrev pub value_bin : Reducer → List Float → Datum → Option ℕ
-value_bin Comp0Mean list d = None
-value_bin ComponentSumMean list d = None
-value_bin (ComponentSumHistogram e) list d = built_bin e list (component_sum d)
+abbrev pub value_bin : BuiltReducer → Datum → Option ℕ
+value_bin Comp0Mean d = None
+value_bin ComponentSumMean d = None
+value_bin (ComponentSumHistogram e) d = built_bin e (component_sum d)
 
--- the datum, whose value's bin is o, is added to state s; m is the length of the value edges
-abbrev pub added_at : Reducer → ℕ → Option ℕ → ℕ → ℕ → Datum → List Float → List Float
-added_at Comp0Mean m o n s d pack = add_mean n s d.c0 d.weight pack
-added_at ComponentSumMean m o n s d pack = add_mean n s (component_sum d) d.weight pack
-added_at (ComponentSumHistogram e) m o n s d pack = add_in (below (built_bins e m) o) n s d.weight pack
+-- the datum, whose value's bin is o, is added to state s
+abbrev pub added_at : BuiltReducer → Option ℕ → ℕ → ℕ → Datum → List Float → List Float
+added_at Comp0Mean o n s d pack = add_mean n s d.c0 d.weight pack
+added_at ComponentSumMean o n s d pack = add_mean n s (component_sum d) d.weight pack
+added_at (ComponentSumHistogram e) o n s d pack = add_in (below (built_bins e) o) n s d.weight pack
 
 -- the same, nothing where there is no room
-unfoldable pub consumed_at : Reducer → ℕ → Option ℕ → ℕ → ℕ → Datum → List Float → List Float
-consumed_at r m o n s d pack = cond (has_room n (reducer_size r m) s (length pack)) (added_at r m o n s d pack) pack
+unfoldable pub consumed_at : BuiltReducer → Option ℕ → ℕ → ℕ → Datum → List Float → List Float
+consumed_at r o n s d pack = cond (has_room n (reducer_size r) s (length pack)) (added_at r o n s d pack) pack
 
 -- the same with the value looked up
-unfoldable pub consumed : Reducer → List Float → ℕ → ℕ → Datum → List Float → List Float
-consumed r list n s d pack = consumed_at r (length list) (value_bin r list d) n s d pack
+unfoldable pub consumed : BuiltReducer → ℕ → ℕ → Datum → List Float → List Float
+consumed r n s d pack = consumed_at r (value_bin r d) n s d pack

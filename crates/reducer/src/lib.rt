@@ -1,15 +1,17 @@
 // Kinds of reduction, a pair's datum, and what it adds to a state of a pack.
 #![tactic(auto)]
 
-ghost use Rattle.std.specs.Prelude.{◌≡◌, ◌*◌, ◌<◌, ◌≤◌, length};
+ghost use Rattle.std.specs.Prelude.{◌≡◌, ℕ, ◌*◌, ◌<◌, ◌≤◌, length};
 ghost use Rattle.definitions.specs.Bins.{below};
 ghost use Rattle.definitions.specs.Reducer.{datum_of, component_sum};
 ghost use Rattle.definitions.specs.Run.{place};
 ghost use Rattle.laws.proofs.Places.{bump, add_mean};
+ghost use Rattle.state_refusals.specs.Readings.{state_kind_of};
 ghost use Rattle.reducer.specs.Readings.{op_of, the_datum, reading_of};
-ghost use Rattle.reducer.specs.Consume.{built_bins, built_find, built_bin, reducer_size, has_room, add_in, value_bin, consumed_at, consumed};
+ghost use Rattle.reducer.specs.Consume.{bins_in, state_kind_in, size_in, built_find, built_bin, has_room, add_in, value_bin, consumed_at, consumed};
 
 use bins::RegularBinEdges;
+use state_refusals::StateKind;
 
 #[derive(Clone, Copy)]
 pub enum PairOperation {
@@ -17,33 +19,93 @@ pub enum PairOperation {
     ElementwiseSub,
 }
 
-// Edges as the caller states them: minimum, maximum and number of bins, or a slice beside.
-#[derive(Clone, Copy)]
-pub enum Edges {
-    Regular(f64, f64, usize),
-    Irregular,
+// What has a number of bins.
+pub trait Bins {
+    ghost bins: { Self → ℕ };
+
+    fn n_bins(self) -> usize
+        ensures { result ≡ bins self };
 }
 
-// A histogram has value edges.
+// Regular edges as the caller states them.
 #[derive(Clone, Copy)]
-pub enum Kind {
-    Comp0Mean,
-    ComponentSumMean,
-    ComponentSumHistogram(Edges),
+pub struct RegularEdges {
+    pub min: f64,
+    pub max: f64,
+    pub n_bins: usize,
 }
+
+impl Bins for RegularEdges {
+    ghost bins = { λ edges. edges.n_bins };
+
+    fn n_bins(self) -> usize {
+        self.n_bins
+    }
+}
+
+impl Bins for RegularBinEdges {
+    ghost bins = { λ edges. edges.n_bins };
+
+    fn n_bins(self) -> usize {
+        self.n_bins
+    }
+}
+
+// Edges: regular ones as R has them, or a slice.
+#[derive(Clone, Copy)]
+pub enum BinEdges<'a, R> {
+    Regular(R),
+    Irregular(&'a [f64]),
+}
+
+// Edges as the caller states them.
+pub type Edges<'a> = BinEdges<'a, RegularEdges>;
 
 // Edges built once and passed to each lookup.
-#[derive(Clone, Copy)]
-pub enum BuiltEdges {
-    Regular(RegularBinEdges),
-    Irregular,
+pub type BuiltEdges<'a> = BinEdges<'a, RegularBinEdges>;
+
+impl<'a, R: Bins> Bins for BinEdges<'a, R> {
+    ghost bins = { bins_in R.bins };
+
+    fn n_bins(self) -> usize {
+        match self {
+            BinEdges::Regular(edges) => edges.n_bins(),
+            BinEdges::Irregular(edges) => edges.len().saturating_sub(1),
+        }
+    }
 }
 
+// What is done with the pairs of a bin; a histogram has value edges E.
 #[derive(Clone, Copy)]
-pub enum Reducer {
+pub enum Reducer<E> {
     Comp0Mean,
     ComponentSumMean,
-    ComponentSumHistogram(BuiltEdges),
+    ComponentSumHistogram(E),
+}
+
+// With value edges as the caller states them.
+pub type Kind<'a> = Reducer<Edges<'a>>;
+
+// With built ones.
+pub type BuiltReducer<'a> = Reducer<BuiltEdges<'a>>;
+
+impl<E: Bins> Reducer<E> {
+    pub fn state_kind(self) -> StateKind
+        ensures { result ≡ state_kind_in E.bins self }
+    {
+        match self {
+            Reducer::Comp0Mean => StateKind::Mean,
+            Reducer::ComponentSumMean => StateKind::Mean,
+            Reducer::ComponentSumHistogram(edges) => StateKind::Histogram(edges.n_bins()),
+        }
+    }
+
+    // How many numbers a state has.
+    pub fn state_size(self) -> usize
+        ensures { result ≡ size_in E.bins self }
+    {
+        state_refusals::accum_state_size(self.state_kind())
+    }
 }
 
 // Three component values and a weight: a pair's, or what is read of a point or a cell.
@@ -83,50 +145,21 @@ pub fn component_sum(d: Datum) -> f64
     d.c0 + (d.c1 + d.c2)
 }
 
-// How many bins built edges have.
-pub fn n_bins(edges: BuiltEdges, edges_len: usize) -> usize
-    ensures { result ≡ built_bins edges edges_len }
+fn bin_index(edges: BuiltEdges, value: f64) -> Option<usize>
+    ensures { result ≡ built_find edges.entry value }
 {
     match edges {
-        BuiltEdges::Regular(e) => e.n_bins,
-        BuiltEdges::Irregular => edges_len.saturating_sub(1),
-    }
-}
-
-fn bin_index(edges: BuiltEdges, list: &[f64], value: f64) -> Option<usize>
-    ensures { result ≡ built_find edges list.now value }
-{
-    match edges {
-        BuiltEdges::Regular(e) => e.bin_index(value),
-        BuiltEdges::Irregular => bins::last_not_after(list, value),
+        BinEdges::Regular(edges) => edges.bin_index(value),
+        BinEdges::Irregular(edges) => bins::last_not_after(edges, value),
     }
 }
 
 // The value's bin; an index past the bins is dropped.
-pub fn bin_of(edges: BuiltEdges, list: &[f64], value: f64) -> Option<usize>
-    ensures { result ≡ built_bin edges list.now value }
+pub fn bin_of(edges: BuiltEdges, value: f64) -> Option<usize>
+    ensures { result ≡ built_bin edges.entry value }
 {
-    let n = n_bins(edges, list.len());
-    match bin_index(edges, list, value) {
-        Some(i) => {
-            if i < n {
-                return Some(i);
-            }
-            None
-        }
-        None => None,
-    }
-}
-
-// How many numbers a state has.
-pub fn state_size(reducer: Reducer, value_edges_len: usize) -> usize
-    ensures { result ≡ reducer_size reducer value_edges_len }
-{
-    match reducer {
-        Reducer::Comp0Mean => 2,
-        Reducer::ComponentSumMean => 2,
-        Reducer::ComponentSumHistogram(e) => n_bins(e, value_edges_len),
-    }
+    let i = bin_index(edges, value)?;
+    (i < edges.n_bins()).then_some(i)
 }
 
 fn has_room(n_states: usize, state_size: usize, s: usize, len: usize) -> bool
@@ -186,17 +219,16 @@ fn add_histogram(
 
 // The datum, whose value's bin is known, is added to state s of a pack of n_states states; nothing where there is no room. A mean needs no bin.
 pub fn consume_at(
-    reducer: Reducer,
-    value_edges_len: usize,
+    reducer: BuiltReducer,
     found: Option<usize>,
     n_states: usize,
     s: usize,
     datum: Datum,
     pack: &mut [f64],
 )
-    ensures { pack.new ≡ consumed_at reducer value_edges_len found n_states s (the_datum datum) pack.old }
+    ensures { pack.new ≡ consumed_at reducer.entry found n_states s (the_datum datum) pack.old }
 {
-    let size = state_size(reducer, value_edges_len);
+    let size = reducer.state_size();
     if has_room(n_states, size, s, pack.len()) {
         match reducer {
             Reducer::Comp0Mean => add_mean(n_states, s, datum.c0, datum.weight, pack),
@@ -210,30 +242,20 @@ pub fn consume_at(
     }
 }
 
-fn value_bin(reducer: Reducer, value_edges: &[f64], datum: Datum) -> Option<usize>
-    ensures { result ≡ value_bin reducer value_edges.now (the_datum datum) }
+fn value_bin(reducer: BuiltReducer, datum: Datum) -> Option<usize>
+    ensures { result ≡ value_bin reducer.entry (the_datum datum) }
 {
     match reducer {
         Reducer::Comp0Mean => None,
         Reducer::ComponentSumMean => None,
-        Reducer::ComponentSumHistogram(edges) => {
-            let value = component_sum(datum);
-            bin_of(edges, value_edges, value)
-        }
+        Reducer::ComponentSumHistogram(edges) => { bin_of(edges, component_sum(datum)) }
     }
 }
 
 // The datum is added to state s of a pack of n_states states; nothing where there is no room.
-pub fn consume(
-    reducer: Reducer,
-    value_edges: &[f64],
-    n_states: usize,
-    s: usize,
-    datum: Datum,
-    pack: &mut [f64],
-)
-    ensures { pack.new ≡ consumed reducer value_edges.now n_states s (the_datum datum) pack.old }
+pub fn consume(reducer: BuiltReducer, n_states: usize, s: usize, datum: Datum, pack: &mut [f64])
+    ensures { pack.new ≡ consumed reducer.entry n_states s (the_datum datum) pack.old }
 {
-    let found = value_bin(reducer, value_edges, datum);
-    consume_at(reducer, value_edges.len(), found, n_states, s, datum, pack);
+    let found = value_bin(reducer, datum);
+    consume_at(reducer, found, n_states, s, datum, pack);
 }

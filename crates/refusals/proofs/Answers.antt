@@ -4,7 +4,9 @@ use native.Mathlib.Omega.{arith}
 use mathlib.Core.List.{List}
 use Rattle.std.specs.Prelude.{IsErrAnd}
 use Rattle.std.proofs.lemmas.Result.{err_from_is_err_and}
+use Prim.Native.Nat.{ℕ}
 use borrow.Author.Tests.{eq-eqb, ne_eqb}
+use Rattle.laws.proofs.Refusals.{or_else}
 use Rattle.std.specs.declared.result.Result.{Result}
 use Rattle.std.specs.declared.result.Result.TheVariants.{Ok, Err}
 use Rattle.definitions.specs.Rules.{Rule, refusal, if_accepted}
@@ -64,3 +66,11 @@ module _ {A : Type 0} (l : List Rule) (a : Result A Refusal) (q : number_of a �
 
     pub accepted_leaves : (v : A) → a ≡ Ok v → x ≡ if_accepted l x y
     accepted_leaves v e = rw (eq-eqb (refusal l) 0 (accepted_none v e))
+
+-- ---- one refusal after another; a is what the first call answers, x its number and y that of what follows
+module _ {A : Type 0} (a : Result A Refusal) (x y : ℕ) (q : number_of a ≡ x) where
+  pub refused_first : (r : Refusal) → a ≡ Err r → {B : Type 0} → (s : Result B Refusal) → IsErrAnd s (λ t. t ≡ r) → number_of s ≡ or_else x y
+  refused_first r e s k = number_carried s r k ∙ (rw (← q, e, ne_eqb (refusal_number r) 0 (number_nonzero r)))
+
+  pub accepted_first : (v : A) → a ≡ Ok v → (z : ℕ) → z ≡ y → z ≡ or_else x y
+  accepted_first v e z h = rw (← q, e) h

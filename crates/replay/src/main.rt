@@ -15,10 +15,10 @@ const MOST_CALLS: u64 = 100_000;
 
 const MOST_WORDS: u64 = 8192;
 
-// A record's two first words: its operation's code, and how many words follow.
+// A record's two first words: its operation, if there is one of that code, and how many words follow.
 #[derive(Clone, Copy)]
 pub struct Head {
-    pub code: u64,
+    pub operation: Option<Operation>,
     pub n: u64,
 }
 
@@ -32,13 +32,14 @@ fn read_word<F: Read>(file: &mut F) -> io::Result<u64> {
 fn read_head<F: Read>(file: &mut F) -> Option<Head> {
     let code = read_word(file).ok()?;
     let n = read_word(file).ok()?;
-    Some(Head { code, n })
+    let operation = Operation::try_from(code).ok();
+    Some(Head { operation, n })
 }
 
 // Whether the record's call answers as the list says.
 fn call<F: Read>(
     file: &mut F,
-    code: u64,
+    operation: Option<Operation>,
     bytes: &mut [u8],
     words: &mut [u64],
     floats: &mut [f64],
@@ -49,9 +50,9 @@ fn call<F: Read>(
     }
     words::decode(bytes, words, floats);
     let mut record = Record { words, floats };
-    match Operation::try_from(code) {
-        Ok(operation) => cases::agrees(operation, &mut record, room),
-        Err(_) => false,
+    match operation {
+        Some(operation) => cases::agrees(operation, &mut record, room),
+        None => false,
     }
 }
 
@@ -79,7 +80,7 @@ fn replay(rt: &HostRuntime, name: &str) -> io::Result<()> {
         let n = head.n as usize;
         if !call(
             &mut file,
-            head.code,
+            head.operation,
             &mut bytes[..n * 8],
             &mut words[..n],
             &mut floats[..n],

@@ -2,13 +2,14 @@
 // states size members teams len slice..
 use crate::cases;
 use crate::words::Record;
-use parallel_serial::Shape;
-use reducer::{Edges, Kind, PairOperation};
+use parallel_serial::{RunSpec, Sets, Shape};
+use reducer::{Edges, Kind, PairOperation, RegularEdges};
 use refusals::Refusal;
 use spatial::{Block, CellWidth};
+use state_refusals::PackShape;
 use unstructured_points::PointSet;
 
-// What a record of a run begins with.
+// What a record of a run begins with. The form is C's number: the value edges, which a Kind would hold, stand later in the record.
 #[derive(Clone, Copy)]
 pub struct Head {
     pub cross: bool,
@@ -75,165 +76,95 @@ fn read_width(record: &mut Record) -> CellWidth {
 }
 
 // 0 min max n, or 1 len edges..
-fn read_edges<'a>(record: &mut Record<'a>) -> (Edges, &'a [f64]) {
+fn read_edges<'a>(record: &mut Record<'a>) -> Edges<'a> {
     if record.word() == 0 {
-        let min = record.float();
-        let max = record.float();
-        return (Edges::Regular(min, max, record.count()), &[]);
+        return Edges::Regular(RegularEdges {
+            min: record.float(),
+            max: record.float(),
+            n_bins: record.count(),
+        });
     }
     let n = record.count();
-    (Edges::Irregular, record.floats(n))
+    Edges::Irregular(record.floats(n))
 }
 
-// What stands after the sets or blocks.
-#[derive(Clone, Copy)]
-pub struct Rest<'a> {
-    pub edges: Edges,
-    pub list: &'a [f64],
-    pub kind: Kind,
-    pub value_list: &'a [f64],
-    pub shape: Shape,
-}
-
-// Of a mean there are no value edges.
-fn read_rest<'a>(record: &mut Record<'a>, form: u64) -> Rest<'a> {
-    let (edges, list) = read_edges(record);
-    let (value, value_list) = if form == 2 {
+// A histogram's value edges stand in the record.
+fn read_kind<'a>(record: &mut Record<'a>, form: u64) -> Kind<'a> {
+    let edges = if form == 2 {
         read_edges(record)
     } else {
-        (Edges::Irregular, &[][..])
+        Edges::Irregular(&[])
     };
-    Rest {
-        edges,
-        list,
-        kind: capi_words::kind_from(form, value),
-        value_list,
-        shape: read_shape(record),
-    }
+    capi_words::kind_from(form, edges)
 }
 
 fn read_shape(record: &mut Record) -> Shape {
     Shape {
-        n_states: record.count(),
-        state_size: record.count(),
+        pack: PackShape {
+            n_states: record.count(),
+            state_size: record.count(),
+        },
         members: record.count(),
         teams: record.count(),
     }
 }
 
-fn points_auto(
-    a: PointSet,
-    op: PairOperation,
-    rest: Rest,
-    pack: &mut [f64],
-) -> Result<(), Refusal> {
-    unstructured::points_auto(
-        a,
-        rest.edges,
-        rest.list,
-        rest.kind,
-        rest.value_list,
-        op,
-        rest.shape,
-        pack,
-    )
+// What stands after the sets or blocks.
+fn read_spec<'a>(record: &mut Record<'a>, head: Head) -> RunSpec<'a> {
+    RunSpec {
+        edges: read_edges(record),
+        kind: read_kind(record, head.form),
+        op: head.op,
+        shape: read_shape(record),
+    }
 }
 
-fn points_cross(
-    a: PointSet,
-    b: PointSet,
-    op: PairOperation,
-    rest: Rest,
-    pack: &mut [f64],
-) -> Result<(), Refusal> {
-    unstructured::points_cross(
-        a,
-        b,
-        rest.edges,
-        rest.list,
-        rest.kind,
-        rest.value_list,
-        op,
-        rest.shape,
-        pack,
-    )
+fn run_points(sets: Sets<PointSet>, spec: RunSpec, pack: &mut [f64]) -> Result<(), Refusal> {
+    match sets {
+        Sets::Auto(a) => unstructured::points_auto(a, spec, pack),
+        Sets::Cross(a, b) => unstructured::points_cross(a, b, spec, pack),
+    }
 }
 
 pub fn points(record: &mut Record, room: &mut [f64]) -> bool {
     let head = read_head(record);
     let a = read_set(record);
-    let b = if head.cross {
-        Some(read_set(record))
+    let sets = if head.cross {
+        Sets::Cross(a, read_set(record))
     } else {
-        None
+        Sets::Auto(a)
     };
-    let rest = read_rest(record, head.form);
+    let spec = read_spec(record, head);
     let n = record.count();
     let pack = cases::lent(record, n, room);
-    let answer = match b {
-        Some(b) => points_cross(a, b, head.op, rest, &mut *pack),
-        None => points_auto(a, head.op, rest, &mut *pack),
-    };
+    let answer = run_points(sets, spec, &mut *pack);
     cases::slice_agrees(record, answer, pack)
 }
 
-fn blocks_auto(
-    a: Block,
+fn run_blocks(
+    sets: Sets<Block>,
     width: CellWidth,
-    op: PairOperation,
-    rest: Rest,
+    spec: RunSpec,
     pack: &mut [f64],
 ) -> Result<(), Refusal> {
-    twopoint_cartesian::blocks_auto(
-        a,
-        width,
-        rest.edges,
-        rest.list,
-        rest.kind,
-        rest.value_list,
-        op,
-        rest.shape,
-        pack,
-    )
-}
-
-fn blocks_cross(
-    a: Block,
-    b: Block,
-    width: CellWidth,
-    op: PairOperation,
-    rest: Rest,
-    pack: &mut [f64],
-) -> Result<(), Refusal> {
-    twopoint_cartesian::blocks_cross(
-        a,
-        b,
-        width,
-        rest.edges,
-        rest.list,
-        rest.kind,
-        rest.value_list,
-        op,
-        rest.shape,
-        pack,
-    )
+    match sets {
+        Sets::Auto(a) => twopoint_cartesian::blocks_auto(a, width, spec, pack),
+        Sets::Cross(a, b) => twopoint_cartesian::blocks_cross(a, b, width, spec, pack),
+    }
 }
 
 pub fn blocks(record: &mut Record, room: &mut [f64]) -> bool {
     let head = read_head(record);
     let a = read_block(record);
-    let b = if head.cross {
-        Some(read_block(record))
+    let sets = if head.cross {
+        Sets::Cross(a, read_block(record))
     } else {
-        None
+        Sets::Auto(a)
     };
     let width = read_width(record);
-    let rest = read_rest(record, head.form);
+    let spec = read_spec(record, head);
     let n = record.count();
     let pack = cases::lent(record, n, room);
-    let answer = match b {
-        Some(b) => blocks_cross(a, b, width, head.op, rest, &mut *pack),
-        None => blocks_auto(a, width, head.op, rest, &mut *pack),
-    };
+    let answer = run_blocks(sets, width, spec, &mut *pack);
     cases::slice_agrees(record, answer, pack)
 }

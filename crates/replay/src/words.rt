@@ -49,7 +49,7 @@ impl<'a> Record<'a> {
     pub fn has_floats(self, numbers: &[f64]) -> bool {
         numbers
             .iter()
-            .map(|x| floats::to_bits(*x))
+            .map(|x| std::num::f64_to_bits_with_nan(*x))
             .eq(self.words.iter().copied())
     }
 }
@@ -59,6 +59,6 @@ pub fn decode(bytes: &[u8], words: &mut [u64], floats: &mut [f64]) {
     let (eights, _) = bytes.as_chunks::<8>();
     for ((eight, word), float) in eights.iter().zip(words.iter_mut()).zip(floats.iter_mut()) {
         *word = u64::from_le_bytes(*eight);
-        *float = floats::from_bits(*word);
+        *float = std::num::f64_from_bits_with_nan(*word);
     }
 }

@@ -1,15 +1,9 @@
 -- What follows of blocks that are within the limits. Assumes nothing.
-use mathlib.Core.Path.{◌≡◌, sym, ◌∙◌}
-use mathlib.Core.Bool.{Bool, false, not, ◌&&◌}
+use mathlib.Core.Path.{◌≡◌}
+use mathlib.Core.Bool.{false, not, ◌&&◌}
 use lib.Dec.{ltb}
-use borrow.Author.Tests.{ltb-false}
 use Rattle.definitions.specs.Blocks.{CartesianBlock, required_length}
-use Rattle.definitions.specs.Rules.{outside, zero_axis, over_block, over_sets}
-use Rattle.spatial.specs.declared.Block.{Block}
-use Rattle.spatial.specs.declared.Sets.{Sets}
-use Rattle.spatial.specs.declared.Sets.TheVariants.{Auto, Cross}
-use Rattle.spatial.specs.Readings.{block_of, sets_of}
-use Rattle.spatial.specs.Refusals.{no_width, Limited, AllLimited}
+use Rattle.definitions.specs.Rules.{outside, zero_axis, over_block}
 use Rattle.spatial.proofs.Refusals.{either}
 
 pub record Numbers (b : CartesianBlock) : Type 0 where
@@ -35,20 +29,3 @@ numbers b h =
     let i = either _ (ltb 64 b.nx) c.0 in
     let j = either (ltb 64 b.nz) (ltb 64 b.ny) i.0 in
     record { nz = j.0; ny = j.1; nx = i.1; sz = c.1; sy = d.1; sx = e.1; gz = z.1; gy = y.1; gx = x.1 }
-
-block_limited : (b : Block) → over_block (block_of b) ≡ false → Limited b
-block_limited b h =
-    let n = numbers (block_of b) h in
-    record {
-      z_axis = ltb-false 64 b.nz n.nz;
-      y_axis = ltb-false 64 b.ny n.ny;
-      x_axis = ltb-false 64 b.nx n.nx;
-      z_stride = ltb-false 65536 b.sz n.sz;
-      y_stride = ltb-false 65536 b.sy n.sy;
-      x_stride = ltb-false 65536 b.sx n.sx;
-    }
-
--- r is what a call answered
-pub all_limited : (s : Sets) (r : Bool) → r ≡ over_sets (sets_of s no_width) → r ≡ false → AllLimited s
-all_limited (Auto a) r q t = block_limited a (sym q ∙ t)
-all_limited (Cross a b) r q t = let h = either (over_block (block_of a)) (over_block (block_of b)) (sym q ∙ t) in (block_limited a h.0, block_limited b h.1)

@@ -1,28 +1,21 @@
 -- The refusals of blocks and widths, for each way through the code, and what follows where there is none. Assumes nothing.
-use mathlib.Core.Path.{◌≡◌, refl, sym, ap, ◌∙◌}
+use mathlib.Core.Path.{◌≡◌, refl, sym, ◌∙◌}
 use mathlib.Core.Bool.{Bool, true, false, ◌||◌, true≢false}
 use mathlib.Core.List.{◌++◌}
 use Prim.Native.Nat.{ℕ}
 use lib.Dec.{ltb}
-use Rattle.std.specs.Prelude.{IsErrAnd}
-use Rattle.std.specs.declared.result.Result.{Result}
-use Rattle.std.specs.declared.result.Result.TheVariants.{Ok, Err}
-use Rattle.refusals.specs.declared.Refusal.{Refusal}
-use Rattle.refusals.specs.Numbers.{refusal_number, number_of}
-use Rattle.refusals.proofs.Answers.{number_nonzero, number_carried}
-use borrow.Author.Tests.{ne_eqb, ltb-false}
+use borrow.Author.Tests.{ltb-false}
 use Rattle.definitions.specs.Blocks as blocks
 use Rattle.definitions.specs.Blocks.{CartesianBlock, required_length}
 use Rattle.definitions.specs.Rules.{refusal, zero_axis, outside, over_block, block_rules, width_rules, set_rules}
-use Rattle.laws.proofs.Refusals.{refusal_append}
+use Rattle.laws.proofs.Refusals.{or_else, refusal_append}
 use Rattle.spatial.specs.declared.Block.{Block}
-use Rattle.spatial.specs.declared.Sets.{Sets}
-use Rattle.spatial.specs.declared.Sets.TheVariants.{Cross}
+use Rattle.parallel_serial.specs.declared.Sets.{Sets}
+use Rattle.parallel_serial.specs.declared.Sets.TheVariants.{Cross}
+use Rattle.spatial.specs.declared.bounded.Bounded.{Bounded}
 use Rattle.spatial.specs.Readings.{block_of, sets_of}
+use Rattle.spatial.specs.Bounded.{blocks_in}
 use Rattle.spatial.specs.Refusals.{numbers_over, length_over, globals_over, Limited}
-
-abbrev Answer : Type 0
-Answer = Result (Unit {0}) Refusal
 
 pub either : (a b : Bool) → (a || b) ≡ false → (a ≡ false) × (b ≡ false)
 either true b h = absurd (true≢false h)
@@ -76,21 +69,8 @@ module _ (b : Block) (r : Bool) (p : r ≡ numbers_over (block_of b)) where
     pub over_globals : s ≡ false → (t : Bool) → t ≡ globals_over (block_of b) → t ≡ over_block (block_of b)
     over_globals k t e = e ∙ sym (whole r s p q ∙ (rw (h, k)))
 
--- ---- two blocks, or in auto one
-module _ (s : Sets) (width : blocks.CellWidth) (a b : Block) (t : s ≡ Cross a b) (x : Answer) (q : number_of x ≡ refusal (block_rules (block_of a))) where
-  pub cross_first : (r : Refusal) → x ≡ Err r → (y : Answer) → IsErrAnd y (λ t. t ≡ r) → number_of y ≡ refusal (set_rules (sets_of s width))
-  cross_first r e y k =
-      let first : refusal_number r ≡ refusal (block_rules (block_of a)) = sym (ap number_of e) ∙ q in
-      number_carried y r k ∙ rw t (sym (refusal_append (block_rules (block_of a)) (block_rules (block_of b) ++ width_rules width) tt ∙ (rw (← first, ne_eqb (refusal_number r) 0 (number_nonzero r)))))
-
-  module _ (v : Unit {0}) (z : x ≡ Ok v) (y : Answer) (p : number_of y ≡ refusal (block_rules (block_of b))) where
-    after : refusal (block_rules (block_of a) ++ (block_rules (block_of b) ++ width_rules width)) ≡ refusal (block_rules (block_of b) ++ width_rules width)
-    after = refusal_append (block_rules (block_of a)) (block_rules (block_of b) ++ width_rules width) tt ∙ (rw (← q, z))
-
-    pub cross_second : (r : Refusal) → y ≡ Err r → (c : Answer) → IsErrAnd c (λ t. t ≡ r) → number_of c ≡ refusal (set_rules (sets_of s width))
-    cross_second r e c k =
-        let second : refusal_number r ≡ refusal (block_rules (block_of b)) = sym (ap number_of e) ∙ p in
-        number_carried c r k ∙ rw t (sym (after ∙ refusal_append (block_rules (block_of b)) (width_rules width) tt ∙ (rw (← second, ne_eqb (refusal_number r) 0 (number_nonzero r)))))
-
-    pub cross_width : (w : Unit {0}) → y ≡ Ok w → (c : Answer) → number_of c ≡ refusal (width_rules width) → number_of c ≡ refusal (set_rules (sets_of s width))
-    cross_width w k c h = rw t (h ∙ sym (after ∙ refusal_append (block_rules (block_of b)) (width_rules width) tt ∙ (rw (← p, k))))
+-- ---- the rules of two blocks and of the widths, one after another
+pub cross_next : (s : Sets Bounded) (width : blocks.CellWidth) (a b : Bounded) → s ≡ Cross a b → (z : ℕ)
+    → z ≡ or_else (refusal (block_rules (block_of a.block))) (or_else (refusal (block_rules (block_of b.block))) (refusal (width_rules width))) → z ≡ refusal (set_rules (sets_of (blocks_in s) width))
+cross_next s width a b t z h =
+    rw t (h ∙ sym (rw (refusal_append (block_rules (block_of a.block)) (block_rules (block_of b.block) ++ width_rules width) tt, refusal_append (block_rules (block_of b.block)) (width_rules width) tt)))

@@ -4,8 +4,8 @@ use Rattle.definitions.specs.Blocks.{CartesianBlock}
 use Rattle.definitions.specs.Run as run
 use Rattle.spatial.specs.declared.Block.{Block}
 use Rattle.spatial.specs.declared.CellWidth.{CellWidth}
-use Rattle.spatial.specs.declared.Sets.{Sets}
-use Rattle.spatial.specs.declared.Sets.TheVariants.{Auto, Cross}
+use Rattle.parallel_serial.specs.declared.Sets.{Sets}
+use Rattle.parallel_serial.specs.declared.Sets.TheVariants.{Auto, Cross}
 
 -- a block, with its components and weights
 abbrev pub block_of : Block → CartesianBlock
@@ -29,15 +29,6 @@ block_of b =
 abbrev pub width_of : CellWidth → Blocks.CellWidth
 width_of w = record { wz = w.z; wy = w.y; wx = w.x }
 
--- in auto the two blocks are one
-abbrev pub first_of : Sets → Block
-first_of (Auto a) = a
-first_of (Cross a b) = a
-
-abbrev pub second_of : Sets → Block
-second_of (Auto a) = a
-second_of (Cross a b) = b
-
-abbrev pub sets_of : Sets → Blocks.CellWidth → run.Sets
+abbrev pub sets_of : Sets Block → Blocks.CellWidth → run.Sets
 sets_of (Auto a) w = run.one_block w (block_of a)
 sets_of (Cross a b) w = run.two_blocks w (block_of a) (block_of b)

@@ -5,8 +5,6 @@ use Rattle.definitions.specs.Blocks as Blocks
 use Rattle.definitions.specs.Blocks.{CartesianBlock, required_length}
 use Rattle.definitions.specs.Rules.{outside, zero_axis}
 use Rattle.spatial.specs.declared.Block.{Block}
-use Rattle.spatial.specs.declared.Sets.{Sets}
-use Rattle.spatial.specs.declared.Sets.TheVariants.{Auto, Cross}
 
 -- limits and rules on pairs do not read the widths
 abbrev pub no_width : Blocks.CellWidth
@@ -30,7 +28,3 @@ pub record Limited (b : Block) : Type 0 where
   pub z_stride : b.sz ≤ 65536
   pub y_stride : b.sy ≤ 65536
   pub x_stride : b.sx ≤ 65536
-
-abbrev pub AllLimited : Sets → Type 0
-AllLimited (Auto a) = Limited a
-AllLimited (Cross a b) = Limited a × Limited b

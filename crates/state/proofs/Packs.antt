@@ -1,21 +1,18 @@
 -- Turns of the loops over a pack, and the consolidation, pack by pack in the code and place by place in its definition.
 use mathlib.Core.Path.{◌≡◌, refl, sym, ◌∙◌, ap}
-use Rattle.std.specs.Prelude.{Option, Some}
+use Rattle.std.specs.Prelude.{Option, Some, replicate}
 use mathlib.Core.Bool.{false}
-use mathlib.Core.List.{List, ◌∷◌, ◌++◌, map}
-use Prim.Native.Nat.{ℕ, zero, suc, ◌+◌, ◌*◌, ◌<◌, ◌≤◌, ◌^◌}
-use native.Mathlib.Nat.{add-zero, le_refl, mul-le-mul_right}
-use native.Mathlib.Numerals.{add-one}
+use mathlib.Core.List.{List, ◌∷◌, ◌++◌, map, append-nil}
+use Prim.Native.Nat.{ℕ, zero, suc, ◌+◌, ◌-◌, ◌*◌, ◌<◌, ◌≤◌}
+use native.Mathlib.Nat.{add-zero, zero-mul, le_refl, mul-le-mul_right}
 use native.Mathlib.Omega.{arith}
-use lib.ListN.{length, set, take, drop, take-append-drop}
-use lib.Seq.{drop_at, ext_get_or, get_or-take, length-take-le}
+use lib.ListN.{length, set, take, drop, take-append-drop, drop_of_length-le, length-drop}
+use lib.Seq.{take_at, drop_at, drop-drop, ext_get_or, get_or-take, get_or-drop, length-take-le}
 use lib.Ieee.{Float, nan, binary64, add}
-use mir.Syntax.{w64}
-use mir.Val.{Fits}
 use Rattle.definitions.specs.Lists.{at, range, upto, overwritten, add_opt, fold_at}
 use Rattle.definitions.specs.Floats.{zero_f}
 use Rattle.definitions.specs.State.{reset_pack, merge_packs, consolidate_packs}
-use Rattle.laws.proofs.Places.{table_length, table_at, overwritten_turn, overwritten_at, overwritten_past}
+use Rattle.laws.proofs.Places.{table_length, table_at, overwritten_turn, overwritten_past}
 
 -- a turn that stores x in the next place
 pub turn : (f : ℕ → Float) (i n : ℕ) (s q : List Float) (x : Float) → i < n → n ≤ length s → q ≡ overwritten i f s → x ≡ f i → set q i x ≡ overwritten (i + 1) f s
@@ -30,34 +27,14 @@ over f i n q h k e =
     let s : i ≡ n = omega arith in
     e ∙ ap f s
 
-module _ (s : List Float) (i n : ℕ) (q : List Float) where
-  pub reset_turn : i < n → n ≤ length s → q ≡ reset_pack i s → set q i (zero_f false) ≡ reset_pack (i + 1) s
-  reset_turn h l e = turn (λ p. zero_f false) i n s q (zero_f false) h l e refl
+module _ (s : List Float) (i n : ℕ) (q t : List Float) where
+  pub merge_turn : i < n → n ≤ length s → q ≡ merge_packs i s t → set q i (add binary64 (at q i) (at t i)) ≡ merge_packs (i + 1) s t
+  merge_turn h l e =
+      let f : ℕ → Float = λ p. add binary64 (at s p) (at t p) in
+      turn f i n s q _ h l e (ap (λ (x : Float). add binary64 x (at t i)) (kept f i i s q (le_refl i) e))
 
-  pub reset_done : i ≤ n → n ≤ i → q ≡ reset_pack i s → q ≡ reset_pack n s
-  reset_done = over (λ k. reset_pack k s) i n q
-
-  module _ (t : List Float) where
-    pub merge_turn : i < n → n ≤ length s → q ≡ merge_packs i s t → set q i (add binary64 (at q i) (at t i)) ≡ merge_packs (i + 1) s t
-    merge_turn h l e =
-        let f : ℕ → Float = λ p. add binary64 (at s p) (at t p) in
-        turn f i n s q _ h l e (ap (λ (x : Float). add binary64 x (at t i)) (kept f i i s q (le_refl i) e))
-
-    pub merge_done : i ≤ n → n ≤ i → q ≡ merge_packs i s t → q ≡ merge_packs n s t
-    merge_done = over (λ k. merge_packs k s t) i n q
-
--- ---- a pack added to the first
-abbrev pub added_from : ℕ → ℕ → List Float → List Float
-added_from from n s = overwritten n (λ p. add binary64 (at s p) (at s (from + p))) s
-
-module _ (from i n : ℕ) (s q : List Float) where
-  pub from_turn : i < n → n ≤ from → from + n ≤ length s → q ≡ added_from from i s → set q i (add binary64 (at q i) (at q (from + i))) ≡ added_from from (i + 1) s
-  from_turn h b l e =
-      let f : ℕ → Float = λ p. add binary64 (at s p) (at s (from + p)) in
-      turn f i n s q _ h (omega arith) e (λ j. add binary64 (kept f i i s q (le_refl i) e j) (kept f i (from + i) s q (omega arith) e j))
-
-  pub from_done : i ≤ n → n ≤ i → q ≡ added_from from i s → q ≡ added_from from n s
-  from_done = over (λ k. added_from from k s) i n q
+  pub merge_done : i ≤ n → n ≤ i → q ≡ merge_packs i s t → q ≡ merge_packs n s t
+  merge_done = over (λ k. merge_packs k s t) i n q
 
 -- ---- the consolidation
 fold_more : (t : ℕ → Option Float) (x : Float) (k n : ℕ) → fold_at t x (range k (suc n)) ≡ add_opt (t (k + n)) (fold_at t x (range k n))
@@ -68,58 +45,94 @@ map_same : (f g : ℕ → Float) (k n : ℕ) → ((p : ℕ) → p < k + n → f 
 map_same f g k zero h = refl
 map_same f g k (suc n) h = λ i. h k (omega arith) i ∷ map_same f g (suc k) n (λ p l. h p (omega arith)) i
 
--- what stands in the first places is written over
-again : (f g h : ℕ → Float) (n : ℕ) (s : List Float) → ((p : ℕ) → p < n → f p ≡ h p) → overwritten n f (overwritten n g s) ≡ overwritten n h s
-again f g h n s e = λ i. map_same f h 0 n (λ p l. e p (omega arith)) i ++ drop_at (map g (upto n)) (drop n s) n (table_length g n) i
+front : (n : ℕ) (s : List Float) → n ≤ length s → map (at s) (upto n) ≡ take n s
+front n s h =
+    ext_get_or nan (map (at s) (upto n)) (take n s) (table_length (at s) n ∙ sym (length-take-le n s h))
+    (λ i l. let k : i < n = omega (arith, table_length (at s) n) in table_at (at s) n i k ∙ sym (get_or-take n s i nan k))
 
 -- the first places written over with themselves
 own : (n : ℕ) (s : List Float) → n ≤ length s → overwritten n (at s) s ≡ s
-own n s h =
-    ap (λ (l : List Float). l ++ drop n s) (ext_get_or nan (map (at s) (upto n)) (take n s) (table_length (at s) n ∙ sym (length-take-le n s h))
-    (λ i l. let k : i < n = omega (arith, table_length (at s) n) in table_at (at s) n i k ∙ sym (get_or-take n s i nan k))) ∙ take-append-drop n s
+own n s h = ap (λ (l : List Float). l ++ drop n s) (front n s h) ∙ take-append-drop n s
+
+-- ---- the reset, by std's `fill`
+zeros_are : (k n : ℕ) → replicate n (zero_f false) ≡ map (λ p. zero_f false) (range k n)
+zeros_are k zero = refl
+zeros_are k (suc n) = ap (λ (l : List Float). zero_f false ∷ l) (zeros_are (suc k) n)
+
+pub filled : (n : ℕ) (s q : List Float) → n ≤ length s → q ≡ replicate (length (take n s)) (zero_f false) → q ++ drop n s ≡ reset_pack n s
+filled n s q h e = ap (λ (l : List Float). l ++ drop n s) (e ∙ ap (λ (k : ℕ). replicate k (zero_f false)) (length-take-le n s h) ∙ zeros_are 0 n)
+
+-- ---- the merge, into the pack's part of a slice
+pub merged_part : (n : ℕ) (s t q : List Float) → n ≤ length s → q ≡ merge_packs (length (take n s)) (take n s) t → q ++ drop n s ≡ merge_packs n s t
+merged_part n s t q h e =
+    let k : length (take n s) ≡ n = length-take-le n s h in
+    let g : ℕ → Float = λ p. add binary64 (at (take n s) p) (at t p) in
+    ap (λ (l : List Float). l ++ drop n s)
+    (e
+    ∙ (λ i. map g (upto (k i)) ++ drop (k i) (take n s))
+    ∙ ap (λ (l : List Float). map g (upto n) ++ l) (drop_of_length-le (take n s) (omega arith))
+    ∙ append-nil (map g (upto n))
+    ∙ map_same g (λ p. add binary64 (at s p) (at t p)) 0 n (λ p b. let m : p < n = omega arith in ap (λ (x : Float). add binary64 x (at t p)) (get_or-take n s p nan m)))
+
+-- with none or one, nothing changes
+pub packs_few : (n packs : ℕ) (s : List Float) → packs * n ≤ length s → packs ≤ 1 → s ≡ consolidate_packs packs n s
+packs_few n zero s k h = refl
+packs_few n (suc zero) s k h = sym (own n s (omega arith))
+packs_few n (suc (suc packs)) s k h = absurd (omega arith)
 
 -- the fold at place p over packs 1, .., j
 abbrev folded : ℕ → List Float → ℕ → ℕ → Float
 folded n s j p = fold_at (λ i. Some (at s (i * n + p))) (at s p) (range 1 j)
 
--- pack j + 1 added to what packs 0, .., j have made
-next : (n j : ℕ) (s : List Float) → added_from (suc j * n) n (consolidate_packs (suc j) n s) ≡ consolidate_packs (suc (suc j)) n s
-next n j s =
-    again (λ p. add binary64 (at (consolidate_packs (suc j) n s) p) (at (consolidate_packs (suc j) n s) (suc j * n + p))) (folded n s j) (folded n s (suc j)) n s (λ p h.
-    (λ i. add binary64 (overwritten_at (folded n s j) n s p h i) (overwritten_past (folded n s j) n s (suc j * n + p) (omega arith) i))
-    ∙ ap (λ (i : ℕ). add binary64 (folded n s j p) (at s (i * n + p))) (omega arith)
-    ∙ sym (fold_more (λ i. Some (at s (i * n + p))) (at s p) 1 j))
+-- what packs 0, .., j make
+abbrev pub made : ℕ → List Float → ℕ → List Float
+made n s j = map (folded n s j) (upto n)
 
-module _ (n packs : ℕ) (s : List Float) (k : packs * n ≤ length s) where
-  pub packs_one : 0 < packs → s ≡ consolidate_packs 1 n s
-  packs_one h = sym (own n s (omega (arith, mul-le-mul_right n h)))
+-- what stands from pack j + 1 on
+abbrev pub rest_from : ℕ → List Float → ℕ → List Float
+rest_from n s j = drop (j * n) (drop n s)
 
-  -- with none or one, nothing changes
-  pub packs_few : packs ≤ 1 → s ≡ consolidate_packs packs n s
-  packs_few h = go packs h k
-    where
-      go : (packs : ℕ) → packs ≤ 1 → packs * n ≤ length s → s ≡ consolidate_packs packs n s
-      go zero h k = refl
-      go (suc zero) h k = sym (own n s (omega arith))
-      go (suc (suc packs)) h k = absurd (omega arith)
+pub made_none : (n packs : ℕ) (s q : List Float) → 0 < packs → packs * n ≤ length s → q ≡ take n s → q ≡ made n s 0
+made_none n packs s q z h e = e ∙ sym (front n s (omega (arith, mul-le-mul_right n z)))
 
-module _ (n i packs : ℕ) (s q : List Float) where
-  pub packs_turn : 1 ≤ i → (r : List Float) → r ≡ added_from (i * n) n q → q ≡ consolidate_packs i n s → r ≡ consolidate_packs (i + 1) n s
-  packs_turn h r b e = go i h b e
-    where
-      go : (i : ℕ) → 1 ≤ i → r ≡ added_from (i * n) n q → q ≡ consolidate_packs i n s → r ≡ consolidate_packs (i + 1) n s
-      go zero h b e = absurd (omega arith)
-      go (suc j) h b e = b ∙ ap (added_from (suc j * n) n) e ∙ next n j s ∙ ap (λ (k : ℕ). consolidate_packs k n s) (sym (add-one (suc j)))
+pub rest_whole : (n : ℕ) (s t r : List Float) → t ≡ drop n s → r ≡ t → r ≡ rest_from n s 0
+rest_whole n s t r e f = f ∙ e ∙ ap (λ (k : ℕ). drop k (drop n s)) (sym (zero-mul n))
 
-  pub packs_done : i ≤ packs → packs ≤ i → q ≡ consolidate_packs i n s → q ≡ consolidate_packs packs n s
-  packs_done = over (λ k. consolidate_packs k n s) i packs q
+-- packs 0, .., j have been added; c packs are left to add
+module _ (n packs j : ℕ) (s : List Float) (h : packs * n ≤ length s) where
+  rest_length : length (rest_from n s j) ≡ length s - n - j * n
+  rest_length = length-drop (j * n) (drop n s) ∙ ap (λ (k : ℕ). k - j * n) (length-drop n s)
 
-module _ (n i packs l : ℕ) (h : i < packs) (k : packs * n ≤ l) where
-  pub pack_fits_law : l < 2 ^ 64 → Fits w64 (i * n)
-  pack_fits_law b = record { fits = omega (arith, mul-le-mul_right n h) }
+  last : (c : ℕ) → c + suc j ≡ packs → (0 < c → length (rest_from n s j) < n) → packs ≡ suc j
+  last zero e g = omega arith
+  last (suc c) e g =
+      let k : suc (suc j) ≤ packs = omega arith in
+      absurd (omega (arith, rest_length, mul-le-mul_right n k, g (omega arith)))
 
-  pub pack_within : (m : ℕ) → m ≡ l → i * n + n ≤ m
-  pack_within m e = omega (arith, mul-le-mul_right n h)
+  pub made_all : (c : ℕ) (q r : List Float) → c + suc j ≡ packs → (0 < c → length (rest_from n s j) < n) → q ≡ made n s j → r ≡ drop n s → q ++ r ≡ consolidate_packs packs n s
+  made_all c q r b g e f = (λ i. e i ++ f i) ∙ sym (ap (λ (k : ℕ). consolidate_packs k n s) (last c b g))
 
-pub pack_past : (n i : ℕ) → 1 ≤ i → n ≤ i * n
-pack_past n i h = omega (arith, mul-le-mul_right n h)
+  other_at : (p : ℕ) → p < n → at (take n (rest_from n s j)) p ≡ at s (suc j * n + p)
+  other_at p g =
+      get_or-take n (rest_from n s j) p nan g
+      ∙ get_or-drop (j * n) (drop n s) p nan
+      ∙ get_or-drop n s (j * n + p) nan
+      ∙ ap (at s) (omega arith)
+
+  -- a turn of the loop
+  pub made_more : (q o r t : List Float) → q ≡ made n s j → r ≡ rest_from n s j → r ≡ o ++ t → length o ≡ n → merge_packs (length q) q o ≡ made n s (suc j)
+  made_more q o r t e b c d =
+      let k : length q ≡ n = ap length e ∙ table_length (folded n s j) n in
+      let f : o ≡ take n (rest_from n s j) = sym (take_at o t n d) ∙ ap (take n) (sym c ∙ b) in
+      let g : ℕ → Float = λ p. add binary64 (at q p) (at o p) in
+      (λ i. map g (upto (k i)) ++ drop (k i) q)
+      ∙ ap (λ (l : List Float). map g (upto n) ++ l) (drop_of_length-le q (omega arith))
+      ∙ append-nil (map g (upto n))
+      ∙ map_same g (folded n s (suc j)) 0 n (λ p b.
+      let m : p < n = omega arith in
+      (λ i. add binary64 ((ap (λ (l : List Float). at l p) e ∙ table_at (folded n s j) n p m) i) ((ap (λ (l : List Float). at l p) f ∙ other_at p m) i))
+      ∙ ap (λ (i : ℕ). add binary64 (folded n s j p) (at s (i * n + p))) (omega arith)
+      ∙ sym (fold_more (λ i. Some (at s (i * n + p))) (at s p) 1 j))
+
+  pub rest_more : (o r t : List Float) → r ≡ rest_from n s j → r ≡ o ++ t → length o ≡ n → t ≡ rest_from n s (suc j)
+  rest_more o r t b c d = sym (drop_at o t n d) ∙ ap (drop n) (sym c ∙ b) ∙ drop-drop n (j * n) (drop n s) ∙ ap (λ (m : ℕ). drop m (drop n s)) (omega arith)

@@ -2,7 +2,8 @@
 use mathlib.Core.Path.{◌≡◌, refl, sym, ◌∙◌}
 use mathlib.Core.Bool.{Bool, true, false, not, ◌||◌, true≢false}
 use mathlib.Core.List.{List, [], ◌∷◌}
-use Prim.Native.Nat.{ℕ, ◌*◌, ◌<◌, ◌≤◌}
+use native.Mathlib.Nat.{mul-le-mul_right}
+use Prim.Native.Nat.{ℕ, zero, suc, ◌*◌, ◌<◌, ◌≤◌}
 use native.Mathlib.Omega.{arith}
 use lib.Dec.{ltb, eqb}
 use mir.Syntax.{w64}
@@ -31,6 +32,11 @@ no_rule a b c l h =
 -- from the answer x of a refusal, which is 0: that the product fits, and what each slice holds
 fits_within : (a : ℕ) → ltb 4096 a ≡ false → Fits w64 a
 fits_within a h = record { fits = omega (arith, ltb-false 4096 a h) }
+
+positive : (a b : ℕ) → eqb a 0 ≡ false → eqb b 0 ≡ false → 0 < a * b
+positive zero b h k = absurd (true≢false h)
+positive (suc a) zero h k = absurd (true≢false k)
+positive (suc a) (suc b) h k = let e : 1 ≤ suc a = omega arith in omega (arith, mul-le-mul_right (suc b) e)
 
 module _ (K : StateKind) (states size n x : ℕ) (z : x ≡ 0) where
   module _ (q : x ≡ refusal (reset_rules K states size n)) where
@@ -69,6 +75,11 @@ module _ (K : StateKind) (states size n x : ℕ) (z : x ≡ 0) where
 
     pub packs_fit : Fits w64 (states * size)
     packs_fit = fits_within (states * size) packs_say.0
+
+    pub packs_some : 0 < states * size
+    packs_some =
+        let t = no_rule (over_state K || over_pack states size) (no_bins K) (bad_shape K states size || ltb n (packs * (states * size))) [] (sym q ∙ z) in
+        positive states size (search ors) (search ors)
 
     pub packs_within : packs * (states * size) ≤ n
     packs_within = ltb-false n (packs * (states * size)) packs_say.1

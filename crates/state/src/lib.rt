@@ -31,43 +31,25 @@ fn state_number(pack: &[f64], shape: PackShape, s: usize, e: usize) -> f64
 
 // ---- the operations
 
-// The first n numbers are 0.
-fn zero_first(pack: &mut [f64], n: usize)
-    requires { n ≤ length pack.old }
-    ensures { pack.new ≡ reset_pack n pack.old }
+// Each number of other is added to the one at its place in pack, pack's first.
+fn add_all(pack: &mut [f64], other: &[f64])
+    requires { length pack.old ≤ length other.now }
+    ensures { pack.new ≡ merge_packs (length pack.old) pack.old other.now }
 {
-    for i in 0..n {
-        pack[i] = 0.0;
-    }
-}
-
-// The first n numbers of other are added to those of pack, pack's first.
-fn add_first(pack: &mut [f64], other: &[f64], n: usize)
-    requires { (n ≤ length pack.old) × (n ≤ length other.now) }
-    ensures { pack.new ≡ merge_packs n pack.old other.now }
-{
-    for i in 0..n {
-        pack[i] = pack[i] + other[i];
-    }
-}
-
-// The n numbers that start at `from`, none of them among the first n, are added to the first n, the first's first.
-fn add_from(packs: &mut [f64], from: usize, n: usize)
-    requires { (n ≤ from) × (from + n ≤ length packs.old) }
-    ensures { packs.new ≡ overwritten n (λ p. add binary64 (at packs.old p) (at packs.old (from + p))) packs.old }
-{
-    for i in 0..n {
-        packs[i] = packs[i] + packs[from + i];
+    // `enumerate`, not `zip`: of numbers that another adapter of `iter_mut` lends, a proof knows nothing after the loop.
+    for (i, x) in pack.iter_mut().enumerate() {
+        *x += other[i];
     }
 }
 
 // Packs 1, 2, .. of n numbers each, end to end, are added in turn to pack 0.
 fn add_packs(packs: &mut [f64], n_packs: usize, n: usize)
-    requires { (0 < n_packs) × (n_packs * n ≤ length packs.old) }
+    requires { (0 < n_packs) × (0 < n) × (n_packs * n ≤ length packs.old) }
     ensures { packs.new ≡ consolidate_packs n_packs n packs.old }
 {
-    for i in 1..n_packs {
-        add_from(packs, i * n, n);
+    let (first, others) = packs.split_at_mut(n);
+    for other in others.chunks_exact(n).take(n_packs - 1) {
+        add_all(first, other);
     }
 }
 
@@ -113,7 +95,7 @@ pub fn reset_full_statepack(
         (reset_pack (shape.n_states * shape.state_size) pack.old) pack.old }
 {
     state_refusals::reset_refusal(kind, shape, pack.len())?;
-    zero_first(pack, shape.n_states * shape.state_size);
+    pack[..shape.n_states * shape.state_size].fill(0.0);
     Ok(())
 }
 
@@ -132,12 +114,12 @@ pub fn merge_full_statepacks(
         (merge_packs (shape.n_states * shape.state_size) pack.old other.now) pack.old }
 {
     state_refusals::merge_refusal(kind, shape, other_shape, pack.len(), other.len())?;
-    add_first(pack, other, shape.n_states * shape.state_size);
+    add_all(&mut pack[..shape.n_states * shape.state_size], other);
     Ok(())
 }
 
 // Packs of one shape end to end: packs 1, 2, .. are added in turn to pack 0.
-#[tactic(auto, using(crate::proofs::Packs::packs_few, crate::proofs::Refusals::packs_within))]
+#[tactic(auto, using(crate::proofs::Packs::packs_few, crate::proofs::Refusals::packs_within, crate::proofs::Refusals::packs_some))]
 pub fn serial_consolidate_scratch_statepacks(
     kind: StateKind,
     n_packs: usize,

@@ -12,7 +12,8 @@ pub struct AccumStateView<'a> {
     pub stride: usize,
 }
 
-// Number e of the state whose first number is the slice's first; none where the state or the slice has none. The place is judged by division, so any numbers may be passed.
+// Number e of the state whose first number is the slice's first; none where the state or the slice has none.
+// Any numbers may be passed: a place that is no usize is past every slice.
 #[tactic(auto, unfolding(crate::specs::View::seen))]
 pub fn strided_number(data: &[f64], len: usize, stride: usize, e: usize) -> Option<f64>
     ensures { result ≡ seen «data».now len stride e }
@@ -20,32 +21,28 @@ pub fn strided_number(data: &[f64], len: usize, stride: usize, e: usize) -> Opti
     if len <= e {
         return None;
     }
-    if data.is_empty() {
-        return None;
+    data.get(e.checked_mul(stride)?).copied()
+}
+
+impl<'a> AccumStateView<'a> {
+    // A view of the state whose first number is the slice's first.
+    pub fn new(data: &'a [f64], len: usize, stride: usize) -> AccumStateView<'a>
+        ensures { (result.«data» ≡ «data».entry) × (result.len ≡ len) × (result.stride ≡ stride) }
+    {
+        AccumStateView { data, len, stride }
     }
-    if state_refusals::product_over(e, stride, data.len() - 1) {
-        return None;
+
+    // Number e of the state that the view shows.
+    pub fn number_at(self, e: usize) -> Option<f64>
+        ensures { result ≡ seen self.entry.«data».now self.entry.len self.entry.stride e }
+    {
+        strided_number(self.data, self.len, self.stride, e)
     }
-    Some(data[e * stride])
 }
 
-// A view of the state whose first number is the slice's first.
-pub fn view_of<'a>(data: &'a [f64], len: usize, stride: usize) -> AccumStateView<'a>
-    ensures { (result.«data» ≡ «data».entry) × (result.len ≡ len) × (result.stride ≡ stride) }
-{
-    AccumStateView { data, len, stride }
-}
-
-// Number e of the state that the view shows.
-pub fn number_at<'a>(view: AccumStateView<'a>, e: usize) -> Option<f64>
-    ensures { result ≡ seen view.entry.«data».now view.entry.len view.entry.stride e }
-{
-    strided_number(view.data, view.len, view.stride, e)
-}
-
-// Number e of a state, by way of its view. Its contract says nothing of a view, so whoever calls it needs no proof by hand.
+// Number e of a state, by way of its view.
 pub fn read_number(part: &[f64], len: usize, stride: usize, e: usize) -> Option<f64>
     ensures { result ≡ seen part.now len stride e }
 {
-    number_at(view_of(part, len, stride), e)
+    AccumStateView::new(part, len, stride).number_at(e)
 }

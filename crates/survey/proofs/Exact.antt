@@ -132,7 +132,7 @@ like_same n {r} e = subst (Like n r) e (record { accept = refl; places = refl; s
 
 -- run by run, in any order
 pub data Alike (n : ℕ) : List Run → List Run → Type 0 where
-  None : Alike n [] []
+  none : Alike n [] []
   next : {r q : Run} {l m : List Run} → Like n r q → Alike n l m → Alike n (r ∷ l) (q ∷ m)
   turn : {r q r' q' : Run} {l : List Run} → Like n r r' → Like n q q' → Alike n (r ∷ q ∷ l) (q' ∷ r' ∷ l)
   then : {l m k : List Run} → Alike n l m → Alike n m k → Alike n l k
@@ -156,26 +156,26 @@ module _ (n : ℕ) where
   or_turn false b c = refl
 
   alike_covered : (p : ℕ) {l m : List Run} → Alike n l m → covered n l p ≡ covered n m p
-  alike_covered p None = refl
+  alike_covered p none = refl
   alike_covered p (next h t) = λ i. like_covers h p i || alike_covered p t i
   alike_covered p (turn {r' = r} {q' = q} {l = l} h k) = (λ i. like_covers h p i || (like_covers k p i || covered n l p)) ∙ or_turn (covers n r p) (covers n q p) (covered n l p)
   alike_covered p (then h k) = alike_covered p h ∙ alike_covered p k
 
   alike_gain : (p : ℕ) {l m : List Run} → Alike n l m → gain n l p ≡ gain n m p
-  alike_gain p None = refl
+  alike_gain p none = refl
   alike_gain p (next h t) = λ i. like_gain h p i +ℤ alike_gain p t i
   alike_gain p (turn {r' = r} {q' = q} {l = l} h k) =
       (λ i. like_gain h p i +ℤ (like_gain k p i +ℤ gain n l p)) ∙ +ℤ-left-comm (when_z (covers n r p) (added r p)) (when_z (covers n q p) (added q p)) (gain n l p)
   alike_gain p (then h k) = alike_gain p h ∙ alike_gain p k
 
   alike_costs : {l m : List Run} → Alike n l m → costs n l ≡ costs n m
-  alike_costs None = refl
+  alike_costs none = refl
   alike_costs (next h t) = λ i. like_cost h i + alike_costs t i
   alike_costs (turn {l = l} h k) = (λ i. like_cost h i + (like_cost k i + costs n l)) ∙ omega arith
   alike_costs (then h k) = alike_costs h ∙ alike_costs k
 
   alike_runs : {l m : List Run} → Alike n l m → All (λ r. T (accepted r n) → SurveyRun r) l → All (λ r. T (accepted r n) → SurveyRun r) m
-  alike_runs None v = tt
+  alike_runs none v = tt
   alike_runs (next h t) v = (like_survey h v.0, alike_runs t v.1)
   alike_runs (turn h k) v = (like_survey k v.1.0, (like_survey h v.0, v.1.1))
   alike_runs (then h k) v = alike_runs k (alike_runs h v)

@@ -111,7 +111,7 @@ listing_block : (w : CellWidth) (a : CartesianBlock) → HasCells a → length (
 listing_block w a c few x y =
     let l = cells_of a in
     let n = length l in
-    let Some : 0 < n = some_cells a c in
+    let some : 0 < n = some_cells a c in
     let values = three_lengths (λ c. (reading_at a c).v0) (λ c. (reading_at a c).v1) (λ c. (reading_at a c).v2) l in
     let positions = three_lengths (λ c. (listed_point w a c).c0) (λ c. (listed_point w a c).c1) (λ c. (listed_point w a c).c2) l in
     record {
@@ -125,7 +125,7 @@ listing_block w a c few x y =
         le-ltb n n (le_refl n),
         eq-eqb (3 * n) (3 * n) refl,
         mul-mod_left 3 n,
-        mul-div_cancel 3 Some,
+        mul-div_cancel 3 some,
         eq-eqb n n refl,
       );
       whole = rw (listing_points w a) (whole_points w a l y x);

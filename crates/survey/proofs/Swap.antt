@@ -21,7 +21,7 @@ use Rattle.laws.proofs.Grid.{same_bool}
 use Rattle.laws.proofs.Refusals.{rule_passed, refusal_split, refusal_join}
 use Rattle.survey.specs.Demand3.{with_sets, ListedSets, one_listed, two_listed, RelistedPoints, RelistedSets, one_relisted, two_relisted, Replaced, same, grid, relisted, Each, ends, also}
 use Rattle.survey.proofs.Accepted.{Passed, passed, accept, or-false}
-use Rattle.survey.proofs.Exact.{Like, like_same, Alike, None, next, turn, then}
+use Rattle.survey.proofs.Exact.{Like, like_same, Alike, none, next, turn, then}
 
 -- ---- other sets that meet no number: the run is accepted as it was
 record Clear (t : Sets) : Type 0 where
@@ -165,11 +165,11 @@ like n (relisted {r = r} {t = t} m h) =
     }
 
 pub likes : (n : ℕ) {l m : List Run} → Each (Replaced n) l m → Alike n l m
-likes n ends = None
+likes n ends = none
 likes n (also h t) = next (like n h) (likes n t)
 
 pub orders : (n : ℕ) {l m : List Run} → Permᴰ l m → Alike n l m
-orders n Permᴰ.nil = None
+orders n Permᴰ.nil = none
 orders n (Permᴰ.cons e d) = next (like_same n e) (orders n d)
 orders n (Permᴰ.swap e f) = turn (like_same n e) (like_same n f)
 orders n (Permᴰ.trans d e) = then (orders n d) (orders n e)

@@ -19,8 +19,9 @@ use Rattle.idx_3d_offset.specs.Offsets.{idx_of, Within, Reach, Walkable}
 use Rattle.parallel_serial.specs.declared.Setup.{Setup}
 use Rattle.spatial.specs.declared.Block.{Block}
 use Rattle.spatial.specs.Readings.{block_of}
-use Rattle.twopoint_cartesian.specs.declared.Planes.{Planes}
-use Rattle.twopoint_cartesian.specs.Cells.{Columns, BlockFits, Near, AllNear, Ready, Placed, Reached, planes_of, fields_in, first_a, first_b, overlap_of, cells_added, row_added, plane_added, block_added, pair_step, offset_cells}
+use Rattle.twopoint_cartesian.specs.declared.held.Planes.{Planes}
+use Rattle.twopoint_cartesian.specs.Held.{Columns, BlockFits, Near, AllNear, Ready, Placed, Reached}
+use Rattle.twopoint_cartesian.specs.Cells.{Pairs, pairs_at, planes_of, fields_in, first_a, first_b, overlap_of, cells_added, row_added, plane_added, block_added, pair_step, offset_cells}
 use Rattle.twopoint_cartesian.proofs.Distance.{back}
 
 -- ---- a cell's place
@@ -170,22 +171,16 @@ moved b e s k l m =
     let g : (s.x + m) * b.sx ≡ s.x + m = ap (λ (i : ℕ). (s.x + m) * i) e ∙ mul-one (s.x + m) in
     omega (arith, f, g, add-mul s.z k b.sz, add-mul s.y l b.sy)
 
-pub offset_cells_law : (setup : Setup) (value_edges : List Float) (a b : CartesianBlock) → a.sx ≡ 1 → b.sx ≡ 1 → (d : blocks.Idx3DOffset) (s : List Float)
-    → block_added setup value_edges (fields_in a) (fields_in b) (cell_index a (first_a d)) (cell_index b (first_b d)) a.sy b.sy a.sz b.sz
-    (count a.nx b.nx d.dx) (count a.ny b.ny d.dy) 0 (count a.nz b.nz d.dz) s ≡ offset_cells setup value_edges a b d s
+pub offset_cells_law : (setup : Setup) (a b : CartesianBlock) → a.sx ≡ 1 → b.sx ≡ 1 → (d : blocks.Idx3DOffset) (s : List Float) → block_added setup (pairs_at a b d) 0 (count a.nz b.nz d.dz) s ≡ offset_cells setup a b d s
 unfolding block_added plane_added row_added pair_step offset_cells
-offset_cells_law setup value_edges a b ea eb d s =
-    (λ t. loop_left (λ k s. loop_left (λ l s. loop_left (λ m s. cells_added setup value_edges (fields_in a) (fields_in b) (moved a ea (first_a d) k l m t) (moved b eb (first_b d) k l m t) s)
+offset_cells_law setup a b ea eb d s =
+    (λ t. loop_left (λ k s. loop_left (λ l s. loop_left (λ m s. cells_added setup (fields_in a) (fields_in b) (moved a ea (first_a d) k l m t) (moved b eb (first_b d) k l m t) s)
     0 (count a.nx b.nx d.dx) s) 0 (count a.ny b.ny d.dy) s) 0 (count a.nz b.nz d.dz) s)
-    ∙ loop3 (pair_step setup value_edges a b) (λ k l m. (cell (start_a d.dz + k) (start_a d.dy + l) (start_a d.dx + m), cell (start_b d.dz + k) (start_b d.dy + l) (start_b d.dx + m)))
+    ∙ loop3 (pair_step setup a b) (λ k l m. (cell (start_a d.dz + k) (start_a d.dy + l) (start_a d.dx + m), cell (start_b d.dz + k) (start_b d.dy + l) (start_b d.dx + m)))
     (count a.nz b.nz d.dz) (count a.ny b.ny d.dy) (count a.nx b.nx d.dx) s
-    ∙ fold_run (pair_step setup value_edges a b) (cell_pairs a b d) s
+    ∙ fold_run (pair_step setup a b) (cell_pairs a b d) s
 
 -- z is what the state held before
-pub cells_done : (setup : Setup) (value_edges : List Float) (a b : Block) (o : Idx3DOffset) → Reached a b o → (s z q : List Float) (p : Planes) (f g : Columns) → p ≡ planes_of (block_of a) (block_of b) (idx_of o)
-    → f ≡ fields_in (block_of a) → g ≡ fields_in (block_of b) → s ≡ z
-    → q ≡ block_added setup value_edges f g p.rows.i p.rows.j p.rows.sa p.rows.sb p.ta p.tb p.rows.n p.rows.m 0 p.l s → q ≡ offset_cells setup value_edges (block_of a) (block_of b) (idx_of o) z
-cells_done setup value_edges a b o h s z q p f g ep ef eg es e =
-    e
-    ∙ (λ t. block_added setup value_edges (ef t) (eg t) (ep t).rows.i (ep t).rows.j (ep t).rows.sa (ep t).rows.sb (ep t).ta (ep t).tb (ep t).rows.n (ep t).rows.m 0 (ep t).l (es t))
-    ∙ offset_cells_law setup value_edges (block_of a) (block_of b) h.first.x_stride h.second.x_stride (idx_of o) z
+pub cells_done : (setup : Setup) (a b : Block) (o : Idx3DOffset) → Reached a b o → (s z q : List Float) (u : Pairs) → u ≡ pairs_at (block_of a) (block_of b) (idx_of o) → s ≡ z → q ≡ block_added setup u 0 u.planes.l s
+    → q ≡ offset_cells setup (block_of a) (block_of b) (idx_of o) z
+cells_done setup a b o h s z q u eu es e = e ∙ (λ t. block_added setup (eu t) 0 (eu t).planes.l (es t)) ∙ offset_cells_law setup (block_of a) (block_of b) h.first.x_stride h.second.x_stride (idx_of o) z

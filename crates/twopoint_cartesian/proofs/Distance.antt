@@ -19,7 +19,7 @@ use Rattle.idx_3d_offset.specs.Offsets.{idx_of}
 use Rattle.spatial.specs.declared.Block.{Block}
 use Rattle.spatial.specs.declared.CellWidth.{CellWidth}
 use Rattle.spatial.specs.Readings.{block_of, width_of}
-use Rattle.twopoint_cartesian.specs.Cells.{Near, AllNear}
+use Rattle.twopoint_cartesian.specs.Held.{Near, AllNear}
 
 mag_abs : (z : ℤ) → mag z ≤ nat_abs z
 mag_abs (pos n) = omega arith

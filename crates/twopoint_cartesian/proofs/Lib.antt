@@ -5,7 +5,6 @@ pub mod Means
 pub mod Cells
 pub mod Merge
 pub mod Histograms
-pub mod Next
 pub mod Walk
 pub mod Placewise
 pub mod Runs

@@ -8,7 +8,7 @@ use native.Mathlib.Omega.{arith}
 use lib.Ieee.{Float}
 use Rattle.laws.proofs.Loops.{loop_left}
 use Rattle.parallel_serial.specs.declared.Setup.{Setup}
-use Rattle.twopoint_cartesian.specs.Cells.{Columns, row_added, plane_added, block_added}
+use Rattle.twopoint_cartesian.specs.Cells.{Plane, Pairs, row_at, part_at, plane_at, row_added, plane_added, block_added}
 
 loop_join : {S : Type 0} (body : ℕ → S → S) (k m l : ℕ) (s : S) → loop_left body k (m + l) s ≡ loop_left body (k + m) l (loop_left body k m s)
 loop_join body k zero l s = λ t. loop_left body (sym (add-zero k) t) (zero-add l t) s
@@ -44,36 +44,38 @@ module _ {S : Type 0} (body : ℕ → S → S) (n : ℕ) (z : S) where
 pub row_place : (i y r s : ℕ) → i + (y + r) * s ≡ i + y * s + r * s
 row_place i y r s = omega (arith, add-mul y r s)
 
-module _ (setup : Setup) (value_edges : List Float) (a b : Columns) where
-  module _ (i j sa sb n k : ℕ) where
-    pub plane_start : (s : List Float) → plane_added setup value_edges a b i j sa sb n 0 (k - 0) s ≡ plane_added setup value_edges a b i j sa sb n 0 k s
-    plane_start s = ap (λ (m : ℕ). plane_added setup value_edges a b i j sa sb n 0 m s) (sub-zero k)
+module _ (setup : Setup) where
+  module _ (p : Plane) (k : ℕ) where
+    pub plane_start : (s : List Float) → plane_added setup p 0 (k - 0) s ≡ plane_added setup p 0 k s
+    plane_start s = ap (λ (m : ℕ). plane_added setup p 0 m s) (sub-zero k)
 
     module _ (z : List Float) (y : ℕ) (s : List Float) where
-      -- m rows from y on
-      pub plane_turn : (m : ℕ) (q : List Float) → y + m ≤ k → q ≡ plane_added setup value_edges a b (i + y * sa) (j + y * sb) sa sb n 0 m s → plane_added setup value_edges a b i j sa sb n y (k - y) s ≡ z
-          → plane_added setup value_edges a b i j sa sb n (y + m) (k - (y + m)) q ≡ z
+      -- m rows from y on, u
+      pub plane_turn : (m : ℕ) (u : Plane) (q : List Float) → y + m ≤ k → u ≡ part_at p y m → q ≡ plane_added setup u 0 u.rows.m s → plane_added setup p y (k - y) s ≡ z → plane_added setup p (y + m) (k - (y + m)) q ≡ z
       unfolding plane_added
-      plane_turn m q h e =
-          let row : ℕ → List Float → List Float = λ y s. row_added setup value_edges a b (i + y * sa) (j + y * sb) 0 n s in
+      plane_turn m u q h eu e =
+          let row : ℕ → List Float → List Float = λ y s. row_added setup (row_at p y) 0 p.rows.n s in
           left_turns row k z y m s q h
-          (e ∙ sym (loop_shift row (λ r s. row_added setup value_edges a b (i + y * sa + r * sa) (j + y * sb + r * sb) 0 n s) y (λ r s t. row_added setup value_edges a b (row_place i y r sa t) (row_place j y r sb t) 0 n s) 0 m s)
+          (e
+          ∙ (λ t. loop_left (λ r s. row_added setup (row_at (eu t) r) 0 (eu t).rows.n s) 0 (eu t).rows.m s)
+          ∙ sym (loop_shift row (λ r s. row_added setup (row_at (part_at p y m) r) 0 p.rows.n s) y
+          (λ r s t. row_added setup (record { a = p.a; b = p.b; i = row_place p.rows.i y r p.rows.sa t; j = row_place p.rows.j y r p.rows.sb t; n = p.rows.n }) 0 p.rows.n s) 0 m s)
           ∙ ap (λ (l : ℕ). loop_left row l m s) (add-zero y))
 
-      pub plane_done : k ≤ y → plane_added setup value_edges a b i j sa sb n y (k - y) s ≡ z → s ≡ z
+      pub plane_done : k ≤ y → plane_added setup p y (k - y) s ≡ z → s ≡ z
       unfolding plane_added
-      plane_done = left_done (λ y s. row_added setup value_edges a b (i + y * sa) (j + y * sb) 0 n s) k z y s
+      plane_done = left_done (λ y s. row_added setup (row_at p y) 0 p.rows.n s) k z y s
 
-  module _ (i j sa sb ta tb n k l : ℕ) where
-    pub block_start : (s : List Float) → block_added setup value_edges a b i j sa sb ta tb n k 0 (l - 0) s ≡ block_added setup value_edges a b i j sa sb ta tb n k 0 l s
-    block_start s = ap (λ (m : ℕ). block_added setup value_edges a b i j sa sb ta tb n k 0 m s) (sub-zero l)
+  module _ (q : Pairs) (l : ℕ) where
+    pub block_start : (s : List Float) → block_added setup q 0 (l - 0) s ≡ block_added setup q 0 l s
+    block_start s = ap (λ (m : ℕ). block_added setup q 0 m s) (sub-zero l)
 
     module _ (e : List Float) (z : ℕ) (s : List Float) where
-      pub block_turn : (q : List Float) → z < l → q ≡ plane_added setup value_edges a b (i + z * ta) (j + z * tb) sa sb n 0 k s
-          → block_added setup value_edges a b i j sa sb ta tb n k z (l - z) s ≡ e → block_added setup value_edges a b i j sa sb ta tb n k (z + 1) (l - (z + 1)) q ≡ e
+      -- plane z, u
+      pub block_turn : (u : Plane) (w : List Float) → z < l → u ≡ plane_at q z → w ≡ plane_added setup u 0 u.rows.m s → block_added setup q z (l - z) s ≡ e → block_added setup q (z + 1) (l - (z + 1)) w ≡ e
       unfolding block_added
-      block_turn q = left_turn (λ z s. plane_added setup value_edges a b (i + z * ta) (j + z * tb) sa sb n 0 k s) l e z s q
+      block_turn u w h eu f = left_turn (λ z s. plane_added setup (plane_at q z) 0 q.planes.rows.m s) l e z s w h (f ∙ λ t. plane_added setup (eu t) 0 (eu t).rows.m s)
 
-      pub block_done : l ≤ z → block_added setup value_edges a b i j sa sb ta tb n k z (l - z) s ≡ e → s ≡ e
+      pub block_done : l ≤ z → block_added setup q z (l - z) s ≡ e → s ≡ e
       unfolding block_added
-      block_done = left_done (λ z s. plane_added setup value_edges a b (i + z * ta) (j + z * tb) sa sb n 0 k s) l e z s
+      block_done = left_done (λ z s. plane_added setup (plane_at q z) 0 q.planes.rows.m s) l e z s

@@ -5,13 +5,11 @@ use Rattle.std.proofs.lemmas.Option.{none-some, same_Some}
 use mathlib.Core.Bool.{Bool, true, false, cond}
 use mathlib.Core.List.{List, [], ◌∷◌}
 use Prim.Native.Nat.{ℕ, ◌+◌, ◌-◌, ◌*◌, ◌<◌, ◌≤◌}
-use native.Mathlib.Nat.{sub-zero, suc-mul, mul_comm, mul-le-mul, mul-le-mul_right}
+use native.Mathlib.Nat.{sub-zero, suc-mul, mul_comm, mul-le-mul_right}
 use native.Mathlib.Omega.{arith}
 use lib.Dec.{T, ltb, ltb→lt}
 use lib.ListN.{length, replicate, length-replicate}
 use lib.Ieee.{Float}
-use mir.Syntax.{w64}
-use mir.Val.{Fits}
 use Rattle.definitions.specs.Lists.{at}
 use Rattle.definitions.specs.Floats.{zero_f}
 use Rattle.definitions.specs.Bins.{below}
@@ -22,20 +20,13 @@ use Rattle.laws.proofs.Places.{fold_pack, bump}
 use Rattle.reducer.proofs.Placewise.{consumed_length}
 use Rattle.reducer.specs.Consume.{built_bins, built_find, built_bin}
 use Rattle.parallel_serial.specs.declared.Setup.{Setup}
-use Rattle.twopoint_cartesian.specs.declared.Mean.{Mean}
-use Rattle.twopoint_cartesian.specs.Cells.{fresh, cells_added, pair_step, state_merged, Room, Roomy, merged_in, mean_state, offset_cells}
+use Rattle.twopoint_cartesian.specs.declared.held.Mean.{Mean}
+use Rattle.twopoint_cartesian.specs.Cells.{fresh, cells_added, pair_step, state_merged, StateFits, merged_in, mean_state, offset_cells}
 use Rattle.twopoint_cartesian.proofs.Loops.{left_turn, left_done}
 
 -- ---- the merge
-module _ (x n k : ℕ) (hx : x < 256) (hn : n ≤ 256) where
-  pub product_fits : Fits w64 (x * n)
-  product_fits = let h : x ≤ 256 = omega arith in record { fits = omega (arith, mul-le-mul h hn) }
-
-  pub place_fits : k < 256 → Fits w64 (x * n + k)
-  place_fits hk = let h : x ≤ 256 = omega arith in record { fits = omega (arith, mul-le-mul h hn) }
-
 -- k is what a call answered
-pub merge_place : (n b size len e k : ℕ) → Room n b size len → e < size → k ≡ place n e b → k < len
+pub merge_place : (n b size len e k : ℕ) → StateFits n b size len → e < size → k ≡ place n e b → k < len
 merge_place n b size len e k r h q = omega (arith, r.state, r.pack, suc-mul e n, mul_comm size n, mul-le-mul_right n h)
 
 module _ (n b : ℕ) (state : List Float) where
@@ -66,32 +57,26 @@ pub fold_length : {A : Type 0} (upd : A → List Float → List Float) → ((x :
 fold_length upd keeps [] s = refl
 fold_length upd keeps (x ∷ l) s = fold_length upd keeps l (upd x s) ∙ keeps x s
 
-module _ (setup : Setup) (value_edges : List Float) (a b : CartesianBlock) where
-  pub pair_length : (q : Cell × Cell) (s : List Float) → length (pair_step setup value_edges a b q s) ≡ length s
+module _ (setup : Setup) (a b : CartesianBlock) where
+  pub pair_length : (q : Cell × Cell) (s : List Float) → length (pair_step setup a b q s) ≡ length s
   unfolding pair_step cells_added
-  pair_length q s = consumed_length value_edges 1 0 _ s setup.reducer
+  pair_length q s = consumed_length 1 0 _ s setup.reducer
 
-  pub cells_length : (d : blocks.Idx3DOffset) (n : ℕ) → length (offset_cells setup value_edges a b d (fresh n)) ≡ n
+  pub cells_length : (d : blocks.Idx3DOffset) (n : ℕ) → length (offset_cells setup a b d (fresh n)) ≡ n
   unfolding offset_cells fresh
-  cells_length d n = fold_length (pair_step setup value_edges a b) pair_length (cell_pairs a b d) (replicate n (zero_f false)) ∙ length-replicate n (zero_f false)
+  cells_length d n = fold_length (pair_step setup a b) pair_length (cell_pairs a b d) (replicate n (zero_f false)) ∙ length-replicate n (zero_f false)
 
-pub bin_room : (setup : Setup) (list value_edges : List Float) (size : ℕ) (x : Float) (bin len : ℕ) → built_bin setup.edges list x ≡ Some bin → Roomy setup list value_edges size len → Room setup.n_states bin size len
+pub bin_fits : (setup : Setup) (size : ℕ) (x : Float) (bin len : ℕ) → built_bin setup.edges x ≡ Some bin → size ≤ 256 → setup.n_states * size ≤ len → StateFits setup.n_states bin size len
 unfolding built_bin
-bin_room setup list value_edges size x bin len h k =
-    let l = below_found (built_bins setup.edges (length list)) (built_find setup.edges list x) bin h in
-    record { few = k.few; small = k.small; state = omega (arith, k.states); pack = k.pack }
+bin_fits setup size x bin len h k l = record { few = setup.usable.few; small = k; state = let m = below_found (built_bins setup.edges) (built_find setup.edges x) bin h in omega (arith, setup.usable.states); pack = l }
 
-pub room_sized : (n bin size len k : ℕ) → k ≡ size → Room n bin size len → Room n bin k len
+pub room_sized : (n bin size len k : ℕ) → k ≡ size → StateFits n bin size len → StateFits n bin k len
 room_sized n bin size len k e r = rw e r
 
 pub state_merged_law : (n bin : ℕ) (state t s q : List Float) → state ≡ t → q ≡ state_merged n bin state 0 (length state) s → q ≡ merged_in (Some bin) n t s
 state_merged_law n bin state t s q f g = g ∙ ap (λ (x : List Float). merged_in (Some bin) n x s) f
 
 -- ---- a mean's two numbers
-module _ (n bin len k : ℕ) (r : Room n bin 2 len) where
-  pub mean_place : (e : ℕ) → e < 2 → k ≡ place n e bin → k < len
-  mean_place e h q = merge_place n bin 2 len e k r h q
-
 pub mean_stored : (n bin : ℕ) (m : Mean) (s : List Float) (j k : ℕ) → j ≡ place n 0 bin → k ≡ place n 1 bin → bump k m.weight (bump j m.total s) ≡ state_merged n bin (mean_state m) 0 2 s
 unfolding state_merged
 mean_stored n bin m s j k ej ek = λ t. bump (ek t) m.weight (bump (ej t) m.total s)

@@ -19,13 +19,11 @@ use Rattle.definitions.specs.Reducer.{datum_of, datum_term, kind_size, in_bin}
 use Rattle.definitions.specs.Run.{Sets, Run, used, place, state_at, number_at, cells_at, offset_at}
 use Rattle.laws.proofs.Loops.{loop_left}
 use Rattle.laws.proofs.Places.{fold_pack, placewise, bump, hist_at}
-use Rattle.reducer.specs.declared.Edges.{Edges}
-use Rattle.reducer.specs.declared.Kind.{Kind}
-use Rattle.reducer.specs.declared.PairOperation.{PairOperation}
-use Rattle.reducer.specs.Readings.{op_of, edges_of, kind_of}
-use Rattle.reducer.specs.Consume.{made_edges, made, built_bin}
+use Rattle.reducer.specs.Readings.{BuiltEdges, op_of, edges_of, kind_of}
+use Rattle.reducer.specs.Consume.{built_bin, consumed}
 use Rattle.reducer.proofs.Placewise.{bin_bounded, room, made_bin, consumed_at_law}
-use Rattle.parallel_serial.specs.declared.Shape.{Shape}
+use Rattle.parallel_serial.specs.declared.RunSpec.{RunSpec}
+use Rattle.parallel_serial.specs.Setups.{SetupOf}
 use Rattle.parallel_serial.specs.Drive.{run_of}
 use Rattle.parallel_serial.proofs.Scratch.{zero_at}
 use Rattle.parallel_serial.specs.declared.Setup.{Setup}
@@ -81,72 +79,70 @@ module _ (n bin size : ℕ) (l : bin < n) (st s : List Float) (es : length st �
       ∙ once (eqb bin (state_at n p)) (at st) (number_at n p) 0 (length st) (at s p) (omega arith) (omega (arith, number_below))
 
 -- ---- a run
-module _ (list value_edges : List Float) (edges : Edges) (kind : Kind) (op : PairOperation) (shape : Shape) (sets : Sets) where
+module _ (spec : RunSpec) (setup : Setup) (o : SetupOf spec setup) (few : bins (edges_of spec.edges) ≤ 256) (small : kind_size (kind_of spec.kind) ≤ 256) (sets : Sets) where
   abbrev pub the_run : Run
-  the_run = run_of sets (op_of op) (edges_of edges list) (kind_of kind value_edges) shape
+  the_run = run_of sets spec
 
-  -- what is built of accepted edges and kinds
-  abbrev pub the_setup : Setup
-  the_setup = record { op = op; edges = made_edges edges; reducer = made kind; n_states = bins (edges_of edges list) }
+  abbrev n : ℕ
+  n = bins (edges_of spec.edges)
 
-  module _ (few : bins (edges_of edges list) ≤ 256) (small : kind_size (kind_of kind value_edges) ≤ 256) (width : blocks.CellWidth) (a b : CartesianBlock) where
+  abbrev size : ℕ
+  size = kind_size (kind_of spec.kind)
+
+  module _ (width : blocks.CellWidth) (a b : CartesianBlock) where
     -- a pair of cells, in a state by itself
-    pair_at_law : (q : Cell × Cell) (s : List Float) (p : ℕ) → length s ≡ kind_size (kind_of kind value_edges) → p < kind_size (kind_of kind value_edges)
-        → at (pair_step the_setup value_edges a b q s) p ≡ add_opt (datum_term (kind_of kind value_edges) p (datum_of (op_of op) (reading_at a q.0) (reading_at b q.1))) (at s p)
+    pair_at_law : (q : Cell × Cell) (s : List Float) (p : ℕ) → length s ≡ size → p < size
+        → at (pair_step setup a b q s) p ≡ add_opt (datum_term (kind_of spec.kind) p (datum_of (op_of spec.op) (reading_at a q.0) (reading_at b q.1))) (at s p)
     unfolding pair_step cells_added
     pair_at_law q s p e h =
-        let d = datum_of (op_of op) (reading_at a q.0) (reading_at b q.1) in
-        consumed_at_law value_edges 1 0 d s kind (room 1 (kind_size (kind_of kind value_edges)) 0 (length s) (omega arith) (omega arith) (omega arith) (omega arith)) p (omega arith)
-        ∙ λ t. add_opt (cond (eqb 0 (mod-one p t)) (datum_term (kind_of kind value_edges) (div-one p t) d) None) (at s p)
+        let d = datum_of (op_of spec.op) (reading_at a q.0) (reading_at b q.1) in
+        (λ t. at (consumed (o.reducer t) 1 0 (datum_of (op_of (o.op t)) (reading_at a q.0) (reading_at b q.1)) s) p)
+        ∙ consumed_at_law 1 0 d s spec.kind (room 1 size 0 (length s) (omega arith) (omega arith) (omega arith) (omega arith)) p (omega arith)
+        ∙ λ t. add_opt (cond (eqb 0 (mod-one p t)) (datum_term (kind_of spec.kind) (div-one p t) d) None) (at s p)
 
-    cells_at_law : (d : blocks.Idx3DOffset) (p : ℕ) → p < kind_size (kind_of kind value_edges) → at (offset_cells the_setup value_edges a b d (fresh (kind_size (kind_of kind value_edges)))) p
-        ≡ fold_at (λ q. datum_term (kind_of kind value_edges) p (datum_of (op_of op) (reading_at a q.0) (reading_at b q.1))) (zero_f false) (cell_pairs a b d)
+    cells_at_law : (d : blocks.Idx3DOffset) (p : ℕ) → p < size → at (offset_cells setup a b d (fresh size)) p
+        ≡ fold_at (λ q. datum_term (kind_of spec.kind) p (datum_of (op_of spec.op) (reading_at a q.0) (reading_at b q.1))) (zero_f false) (cell_pairs a b d)
     unfolding offset_cells fresh
     cells_at_law d p h =
-        let n = kind_size (kind_of kind value_edges) in
-        placewise (pair_step the_setup value_edges a b) n (λ p q. datum_term (kind_of kind value_edges) p (datum_of (op_of op) (reading_at a q.0) (reading_at b q.1))) (pair_length the_setup value_edges a b) pair_at_law (cell_pairs a b d)
-        (replicate n (zero_f false)) p (length-replicate n (zero_f false)) h
-        ∙ ap (λ (x : Float). fold_at (λ q. datum_term (kind_of kind value_edges) p (datum_of (op_of op) (reading_at a q.0) (reading_at b q.1))) x (cell_pairs a b d)) (zero_at n p h)
+        placewise (pair_step setup a b) size (λ p q. datum_term (kind_of spec.kind) p (datum_of (op_of spec.op) (reading_at a q.0) (reading_at b q.1))) (pair_length setup a b) pair_at_law (cell_pairs a b d)
+        (replicate size (zero_f false)) p (length-replicate size (zero_f false)) h
+        ∙ ap (λ (x : Float). fold_at (λ q. datum_term (kind_of spec.kind) p (datum_of (op_of spec.op) (reading_at a q.0) (reading_at b q.1))) x (cell_pairs a b d)) (zero_at size p h)
 
     -- one offset
-    offset_length : (d : blocks.Idx3DOffset) (s : List Float) → length (offset_added the_setup list value_edges width a b (kind_size (kind_of kind value_edges)) d s) ≡ length s
+    offset_length : (d : blocks.Idx3DOffset) (s : List Float) → length (offset_added setup width a b size d s) ≡ length s
     unfolding offset_added state_merged
-    offset_length d s = go (built_bin (made_edges edges) list (distance_squared width a b d)) (offset_cells the_setup value_edges a b d (fresh (kind_size (kind_of kind value_edges))))
+    offset_length d s = go (built_bin setup.edges (distance_squared width a b d)) (offset_cells setup a b d (fresh size))
       where
-        go : (o : Option ℕ) (st : List Float) → length (merged_in o (bins (edges_of edges list)) st s) ≡ length s
+        go : (o : Option ℕ) (st : List Float) → length (merged_in o setup.n_states st s) ≡ length s
         go None st = refl
         go (Some bin) st =
-            ap length (loop_fold (λ e s. bump (place (bins (edges_of edges list)) e bin) (at st e) s) 0 (length st) s)
-            ∙ fold_length (λ e s. bump (place (bins (edges_of edges list)) e bin) (at st e) s) (λ e s. length-set s (place (bins (edges_of edges list)) e bin) _) (range 0 (length st)) s
+            ap length (loop_fold (λ e s. bump (place setup.n_states e bin) (at st e) s) 0 (length st) s)
+            ∙ fold_length (λ e s. bump (place setup.n_states e bin) (at st e) s) (λ e s. length-set s (place setup.n_states e bin) _) (range 0 (length st)) s
 
-    offset_at_law : (d : blocks.Idx3DOffset) (s : List Float) (p : ℕ) → length s ≡ used the_run → p < used the_run
-        → at (offset_added the_setup list value_edges width a b (kind_size (kind_of kind value_edges)) d s) p ≡ add_opt (offset_at the_run p width a b d) (at s p)
-    unfolding offset_added
-    offset_at_law d s p e h = (rw (made_bin list edges (distance_squared width a b d))) ∙ go (bin_of (edges_of edges list) (distance_squared width a b d)) refl
+    offset_at_law : (d : blocks.Idx3DOffset) (s : List Float) (p : ℕ) → length s ≡ used the_run → p < used the_run → at (offset_added setup width a b size d s) p ≡ add_opt (offset_at the_run p width a b d) (at s p)
+    unfolding offset_added run_of
+    offset_at_law d s p e h =
+        (λ t. at (merged_in ((ap (λ (x : BuiltEdges). built_bin x (distance_squared width a b d)) o.edges ∙ made_bin spec.edges (distance_squared width a b d)) t) (o.states t) st s) p)
+        ∙ go (bin_of (edges_of spec.edges) (distance_squared width a b d)) refl
       where
-        n : ℕ
-        n = bins (edges_of edges list)
-
         st : List Float
-        st = offset_cells the_setup value_edges a b d (fresh (kind_size (kind_of kind value_edges)))
+        st = offset_cells setup a b d (fresh size)
 
-        go : (o : Option ℕ) → bin_of (edges_of edges list) (distance_squared width a b d) ≡ o
+        go : (o : Option ℕ) → bin_of (edges_of spec.edges) (distance_squared width a b d) ≡ o
             → at (merged_in o n st s) p ≡ add_opt (in_bin o (state_at n p) (Some (fold_at (cells_at the_run p a b) (zero_f false) (cell_pairs a b d)))) (at s p)
         go None i = refl
         go (Some bin) i =
-            merge_at n bin (kind_size (kind_of kind value_edges)) (bin_bounded (edges_of edges list) (distance_squared width a b d) bin i) st s (cells_length the_setup value_edges a b d (kind_size (kind_of kind value_edges))) e p h
-            ∙ ap (λ (x : Float). add_opt (in_bin (Some bin) (state_at n p) (Some x)) (at s p))
-            (cells_at_law d (number_at n p) (number_below n bin (kind_size (kind_of kind value_edges)) (bin_bounded (edges_of edges list) (distance_squared width a b d) bin i) st s (cells_length the_setup value_edges a b d (kind_size (kind_of kind value_edges))) e p h))
+            let l = bin_bounded (edges_of spec.edges) (distance_squared width a b d) bin i in
+            merge_at n bin size l st s (cells_length setup a b d size) e p h
+            ∙ ap (λ (x : Float). add_opt (in_bin (Some bin) (state_at n p) (Some x)) (at s p)) (cells_at_law d (number_at n p) (number_below n bin size l st s (cells_length setup a b d size) e p h))
 
     -- all of them, from zeros
-    pub filled_length : (l : List blocks.Idx3DOffset) (s : List Float) → length (offsets_added the_setup list value_edges width a b (kind_size (kind_of kind value_edges)) l s) ≡ length s
+    pub filled_length : (l : List blocks.Idx3DOffset) (s : List Float) → length (offsets_added setup width a b size l s) ≡ length s
     unfolding offsets_added
-    filled_length l s = fold_length (offset_added the_setup list value_edges width a b (kind_size (kind_of kind value_edges))) offset_length l s
+    filled_length l s = fold_length (offset_added setup width a b size) offset_length l s
 
-    pub filled_at : (l : List blocks.Idx3DOffset) (p : ℕ) → p < used the_run
-        → at (offsets_added the_setup list value_edges width a b (kind_size (kind_of kind value_edges)) l (replicate (used the_run) (zero_f false))) p ≡ fold_at (offset_at the_run p width a b) (zero_f false) l
+    pub filled_at : (l : List blocks.Idx3DOffset) (p : ℕ) → p < used the_run → at (offsets_added setup width a b size l (replicate (used the_run) (zero_f false))) p ≡ fold_at (offset_at the_run p width a b) (zero_f false) l
     unfolding offsets_added
     filled_at l p h =
-        placewise (offset_added the_setup list value_edges width a b (kind_size (kind_of kind value_edges))) (used the_run) (λ p d. offset_at the_run p width a b d) offset_length offset_at_law l (replicate (used the_run) (zero_f false)) p
-        (length-replicate (used the_run) (zero_f false)) h
+        placewise (offset_added setup width a b size) (used the_run) (λ p d. offset_at the_run p width a b d) offset_length offset_at_law l (replicate (used the_run) (zero_f false)) p (length-replicate (used the_run) (zero_f false)) h
         ∙ ap (λ (x : Float). fold_at (offset_at the_run p width a b) x l) (zero_at (used the_run) p h)

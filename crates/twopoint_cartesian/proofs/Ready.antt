@@ -14,12 +14,13 @@ use Rattle.definitions.specs.Blocks.{CartesianBlock, required_length}
 use Rattle.definitions.specs.Rules.{refusal, outside, over_block, over_sets, block_rules, width_rules, set_rules}
 use Rattle.laws.proofs.Refusals.{none_broken_law, none_refused, broken_left, broken_right}
 use Rattle.idx_3d_offset.specs.Offsets.{Axis}
-use Rattle.spatial.specs.declared.Sets.{Sets}
-use Rattle.spatial.specs.declared.Sets.TheVariants.{Auto, Cross}
+use Rattle.parallel_serial.specs.declared.Sets.{Sets}
+use Rattle.parallel_serial.specs.declared.Sets.TheVariants.{Auto, Cross}
+use Rattle.spatial.specs.declared.Block.{Block}
 use Rattle.spatial.specs.Readings.{block_of, sets_of}
 use Rattle.spatial.proofs.Refusals.{either}
 use Rattle.spatial.proofs.Limits.{numbers}
-use Rattle.twopoint_cartesian.specs.Cells.{Near, Ready, AllReady}
+use Rattle.twopoint_cartesian.specs.Held.{Near, Ready, AllReady}
 
 -- a rule that asks that two numbers are equal, and the rules after it
 equal : (a b : ℕ) (m : Bool) → T (not (not (eqb a b)) && m) → (a ≡ b) × T m
@@ -66,7 +67,7 @@ ready b o h =
       global = record { z_near = near b.gz n.gz; y_near = near b.gy n.gy; x_near = near b.gx n.gx };
     }
 
-pub ready_sets : (s : Sets) (w : blocks.CellWidth) → over_sets (sets_of s w) ≡ false → refusal (set_rules (sets_of s w)) ≡ 0 → AllReady s
+pub ready_sets : (s : Sets Block) (w : blocks.CellWidth) → over_sets (sets_of s w) ≡ false → refusal (set_rules (sets_of s w)) ≡ 0 → AllReady s
 ready_sets (Auto a) w o h =
     let r = ready (block_of a) o (none_refused (block_rules (block_of a)) (broken_left (block_rules (block_of a)) (width_rules w) (none_broken_law (block_rules (block_of a) ++ width_rules w) tt (eq→eqb h)))) in
     record { first = r; second = r }

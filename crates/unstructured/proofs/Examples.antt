@@ -2,34 +2,55 @@
 use mathlib.Core.Path.{refl}
 use mathlib.Core.Bool.{false}
 use mathlib.Core.List.{List, [], ◌∷◌}
-use Prim.Native.Nat.{ℕ, zero, suc, ◌-◌, ◌<◌}
+use Prim.Native.Nat.{ℕ, zero, suc, ◌-◌}
 use native.Mathlib.Omega.{arith}
-use lib.ListN.{length, get_or}
+use lib.ListN.{length}
 use lib.Ieee.{Float}
+use Rattle.std.specs.Prelude.{None}
 use Rattle.definitions.specs.Floats.{zero_f}
-use Rattle.reducer.specs.declared.BuiltEdges.TheVariants.{Irregular}
-use Rattle.reducer.specs.declared.Reducer.{Reducer}
+use Rattle.reducer.specs.declared.BinEdges.TheVariants.{Irregular}
 use Rattle.reducer.specs.declared.Reducer.TheVariants.{ComponentSumMean, ComponentSumHistogram}
 use Rattle.reducer.specs.declared.PairOperation.TheVariants.{ElementwiseMultiply}
-use Rattle.edge_table.proofs.Examples.{edges, table, usable}
+use Rattle.reducer.specs.Readings.{BuiltEdges}
+use Rattle.edge_table.proofs.Examples.{list, searchable}
+use Rattle.edge_table.proofs.Lookup.{tabled}
+use Rattle.edge_table.specs.Table.{table_of}
 use Rattle.parallel_serial.specs.declared.Setup.{Setup}
-use Rattle.unstructured.specs.declared.held.Tables.{Tables}
-use Rattle.unstructured.specs.Held.{Readable, UsableRun, TabledRun, Listed, Parts}
+use Rattle.unstructured.specs.declared.held.EdgeTable.{EdgeTable}
+use Rattle.unstructured.specs.declared.held.Lookups.{Lookups}
+use Rattle.unstructured.specs.declared.held.Searched.{Searched}
+use Rattle.unstructured.specs.Held.{Readable, Listed, Parts}
 
-abbrev pub setup : Reducer → Setup
-setup reducer = record { op = ElementwiseMultiply; edges = Irregular; reducer = reducer; n_states = length edges - 1 }
+abbrev pub edges : BuiltEdges
+edges = Irregular (record { ref_ptr = (0, 0); now = list })
 
-abbrev pub tables : Tables
-tables = record { edges = table; values = table }
+abbrev pub edge_table : EdgeTable
+edge_table = record { edges = edges; table = table_of edges (zero_f false); tabled = tabled edges (zero_f false) _ searchable refl }
 
-pub mean : TabledRun (setup ComponentSumMean) edges [] tables
-mean = record { edges = usable; values = tt; states = refl }
+abbrev pub mean : Setup
+mean = record {
+  op = ElementwiseMultiply;
+  edges = edges;
+  reducer = ComponentSumMean;
+  n_states = length list - 1;
+  usable = record { edges_usable = searchable; values_usable = tt; states = refl; few = omega (arith, searchable.few); small = omega arith; limit = omega (arith, searchable.few) };
+}
 
-pub histogram : TabledRun (setup (ComponentSumHistogram Irregular)) edges edges tables
-histogram = record { edges = usable; values = usable; states = refl }
+pub histogram : Setup
+unfolding list
+histogram = record {
+  op = ElementwiseMultiply;
+  edges = edges;
+  reducer = ComponentSumHistogram edges;
+  n_states = length list - 1;
+  usable = record { edges_usable = searchable; values_usable = searchable; states = refl; few = omega arith; small = omega arith; limit = omega arith };
+}
 
-pub usable_mean : UsableRun (setup ComponentSumMean) edges []
-usable_mean = record { edges = usable.usable; values = tt; states = refl }
+pub searched : Searched
+searched = record { setup = record { ref_ptr = (0, 0); now = mean }; ends = edge_table.table.ends; tabled = edge_table.tabled }
+
+pub lookups : Lookups
+lookups = record { setup = mean; edges = edge_table; hints = record { ref_ptr = (0, 0); now = [] }; values = None; value_hints = record { ref_ptr = (0, 0); now = [] }; edges_are = refl; values_are = refl }
 
 -- ---- two points
 abbrev pub pair : List Float
@@ -39,18 +60,15 @@ abbrev pub axes : List Float
 axes = zero_f false ∷ zero_f false ∷ zero_f false ∷ zero_f false ∷ pair
 
 pub readable : Readable axes axes pair 2 2
-readable = record { few = omega arith; inside = omega arith; limit = omega arith; positions = omega arith; values = omega arith; weights = omega arith }
+readable = record { few = omega arith; inside = omega arith; limit = omega arith; positions = omega arith; values = omega arith; weights = refl }
 
 abbrev pub places : List ℕ
 places = 0 ∷ 1 ∷ []
 
-pub parts : Parts 2 pair pair pair pair
-parts = record { few = omega arith; in0 = omega arith; in1 = omega arith; in2 = omega arith; in_w = omega arith }
+pub parts : Parts pair pair pair pair
+parts = record { few = omega arith; in0 = omega arith; in1 = omega arith; in2 = omega arith }
 
-pub listed : Listed 2 places
-listed = record { few = omega arith; below = go }
-  where
-    go : (q : ℕ) → q < length places → get_or places q 0 < 2
-    go zero h = omega arith
-    go (suc zero) h = omega arith
-    go (suc (suc q)) h = absurd (omega arith)
+pub listed : Listed (length pair) places
+listed zero h = omega arith
+listed (suc zero) h = omega arith
+listed (suc (suc q)) h = absurd (omega arith)

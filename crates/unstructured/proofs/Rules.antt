@@ -10,10 +10,14 @@ use lib.Ieee.Fits.{and_l, and_r, eq→eqb}
 use lib.ListN.{length}
 use borrow.Author.Tests.{ltb-false, eqb-true}
 use Rattle.definitions.specs.Points.{UnstructuredPoints, stride}
-use Rattle.definitions.specs.Rules.{refusal, over_points, over_sets, point_rules, set_rules}
+use Rattle.definitions.specs.Rules.{refusal, over_points, over_sets, point_rules, set_rules, run_rules}
 use Rattle.laws.proofs.Refusals.{none_broken_law, none_refused, broken_left, broken_right}
-use Rattle.unstructured_points.specs.declared.Sets.{Sets}
-use Rattle.unstructured_points.specs.declared.Sets.TheVariants.{Auto, Cross}
+use Rattle.parallel_serial.specs.declared.RunSpec.{RunSpec}
+use Rattle.parallel_serial.specs.declared.Sets.{Sets}
+use Rattle.parallel_serial.specs.declared.Sets.TheVariants.{Auto, Cross}
+use Rattle.parallel_serial.specs.Drive.{run_of}
+use Rattle.parallel_serial.proofs.Refusals.{Drivable, accepted}
+use Rattle.unstructured_points.specs.declared.PointSet.{PointSet}
 use Rattle.unstructured_points.specs.Readings.{points_of}
 use Rattle.unstructured_points.specs.Sets.{sets_of}
 use Rattle.unstructured.specs.Pairs.{Held, HeldSets}
@@ -49,10 +53,10 @@ held s o h =
       limit = ltb-false 8192 (stride s) l.1;
       positions = omega (arith, p);
       values = omega (arith, p, v.0);
-      weights = omega (arith, w.0);
+      weights = w.0;
     }
 
-pub held_sets : (sets : Sets) → over_sets (sets_of sets) ≡ false → refusal (set_rules (sets_of sets)) ≡ 0 → HeldSets sets
+held_sets : (sets : Sets PointSet) → over_sets (sets_of sets) ≡ false → refusal (set_rules (sets_of sets)) ≡ 0 → HeldSets sets
 held_sets (Auto a) o h = held (points_of a) o h
 held_sets (Cross a b) o h =
     let p = points_of a in
@@ -60,3 +64,9 @@ held_sets (Cross a b) o h =
     let l = either (over_points p) (over_points q) o in
     let m = none_broken_law (point_rules p ++ point_rules q) tt (eq→eqb h) in
     (held p l.0 (none_refused (point_rules p) (broken_left (point_rules p) (point_rules q) m)), held q l.1 (none_refused (point_rules q) (broken_right (point_rules p) (point_rules q) m)))
+
+-- what follows for the sets of an accepted run, and for its shape
+pub held_run : (sets : Sets PointSet) (spec : RunSpec) (len : ℕ) → refusal (run_rules (run_of (sets_of sets) spec) len) ≡ 0 → HeldSets sets × Drivable spec len
+held_run sets spec len h =
+    let a = accepted (sets_of sets) spec len h in
+    (held_sets sets a.limits a.own, a.drivable)

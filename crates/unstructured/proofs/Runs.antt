@@ -1,141 +1,129 @@
 -- A run's loops leave in scratch, place by place, what the definitions say; so the caller's pack is merged.
-use mathlib.Core.Path.{◌≡◌, refl, sym, ap, subst, ◌∙◌}
+use mathlib.Core.Path.{◌≡◌, refl, sym, ap, ◌∙◌}
 use Rattle.std.specs.Prelude.{Option, None, Some}
 use mathlib.Core.Bool.{false}
 use mathlib.Core.List.{List, [], ◌∷◌, map}
 use Prim.Native.Nat.{ℕ, ◌*◌, ◌<◌, ◌≤◌}
 use native.Mathlib.Omega.{arith}
 use lib.ListN.{length, take, replicate, length-replicate}
-use lib.Dec.{T}
-use lib.Ieee.{Float, binary64, fits}
+use lib.Ieee.{Float}
 use Rattle.definitions.specs.Lists.{at, upto, add_opt, fold_at}
 use Rattle.definitions.specs.Floats.{zero_f}
 use Rattle.definitions.specs.Bins.{bins, bin_of}
 use Rattle.definitions.specs.Points as points
-use Rattle.definitions.specs.Points.{UnstructuredPoints, stride_or, squared_diff_norm}
-use Rattle.definitions.specs.Reducer.{Datum, datum_of, kind_size, pair_in, pair_term}
+use Rattle.definitions.specs.Points.{stride_or, squared_diff_norm}
+use Rattle.definitions.specs.Reducer.{Datum, Pair, kept, dropped, datum_of, kind_size, pair_in, pair_term}
 use Rattle.definitions.specs.Run as run
-use Rattle.definitions.specs.Run.{Run, used, state_at, number_at, pair_of, pair_at, scratch, merged}
-use Rattle.definitions.specs.Rules.{refusal, over_sets, set_rules, pair_rules}
+use Rattle.definitions.specs.Run.{Run, used, state_at, number_at, pair_at, scratch, merged}
 use Rattle.laws.proofs.Places.{placewise}
-use Rattle.reducer.specs.declared.Edges.{Edges}
-use Rattle.reducer.specs.declared.Kind.{Kind}
-use Rattle.reducer.specs.declared.PairOperation.{PairOperation}
-use Rattle.reducer.specs.declared.BuiltEdges.{BuiltEdges}
-use Rattle.reducer.specs.declared.Reducer.{Reducer}
-use Rattle.reducer.specs.Readings.{op_of, edges_of, kind_of}
-use Rattle.reducer.specs.Consume.{made_edges, made, built_bins, built_bin}
-use Rattle.reducer.proofs.Placewise.{bin_bounded, room, made_bin, consumed_length, consumed_at_law, made_bins}
-use Rattle.edge_table.specs.Tabled.{Usable, UsableValues}
-use Rattle.edge_table.proofs.Lookup.{usable_made, usable_values_made}
-use Rattle.parallel_serial.specs.declared.Shape.{Shape}
-use Rattle.parallel_serial.specs.Drive as drive
-use Rattle.parallel_serial.specs.Drive.{zero_pack, added_scratch, built_edges, built_reducer, sets_number, run_of, sets_run}
-use Rattle.parallel_serial.proofs.Refusals.{Drivable, Accepted, accepted}
-use Rattle.parallel_serial.proofs.Built.{built_made, reducer_made}
-use Rattle.std.specs.declared.result.Result.{Result}
-use Rattle.std.specs.declared.result.Result.TheVariants.{Ok}
-use Rattle.refusals.specs.declared.Refusal.{Refusal}
-use Rattle.refusals.specs.Numbers.{number_of}
+use Rattle.reducer.specs.Readings.{BuiltEdges, op_of, edges_of, kind_of}
+use Rattle.reducer.specs.Consume.{built_bins, built_bin, reducer_size, consumed}
+use Rattle.reducer.proofs.Placewise.{bin_bounded, room, made_bin, made_bins, made_size, consumed_length, consumed_at_law}
+use Rattle.parallel_serial.specs.declared.RunSpec.{RunSpec}
+use Rattle.parallel_serial.specs.declared.Setup.{Setup}
+use Rattle.parallel_serial.specs.declared.Sets.{Sets}
+use Rattle.parallel_serial.specs.declared.Sets.TheVariants.{Auto, Cross}
+use Rattle.parallel_serial.specs.Drive.{zero_pack, added_scratch, run_of}
+use Rattle.parallel_serial.specs.Setups.{SetupOf}
+use Rattle.parallel_serial.proofs.Refusals.{Drivable}
 use Rattle.parallel_serial.proofs.Scratch.{lent_zeros, zero_at, added_merged}
 use Rattle.unstructured_points.specs.declared.PointSet.{PointSet}
 use Rattle.unstructured_points.specs.Readings.{points_of}
-use Rattle.unstructured_points.specs.declared.Sets.{Sets}
-use Rattle.unstructured_points.specs.declared.Sets.TheVariants.{Auto, Cross}
 use Rattle.unstructured_points.specs.Sets.{sets_of}
-use Rattle.parallel_serial.specs.declared.Setup.{Setup}
-use Rattle.unstructured.specs.declared.held.Pairing.{Pairing}
-use Rattle.unstructured.specs.declared.held.Run as declared
-use Rattle.unstructured.specs.Held.{UsableRun}
-use Rattle.unstructured.specs.Pairs.{HeldSets, sets_pairs, built_pair, pair_added, pair_step, filled, run_filled}
-use Rattle.unstructured.proofs.Rules.{held_sets}
+use Rattle.unstructured.specs.declared.held.Points.{Points}
+use Rattle.unstructured.specs.Pairs.{sets_pairs, pairs_in, built_pair, pair_added, pair_step, filled, run_filled}
 
--- ---- one pair at one place
-module _ (list value_edges : List Float) (edges : Edges) (kind : Kind) (op : PairOperation) (shape : Shape) (sets : run.Sets) where
+-- ---- a run by what is built of its statement
+module _ (setup : Setup) (spec : RunSpec) (o : SetupOf spec setup) (sets : run.Sets) where
   abbrev the_run : Run
-  the_run = run_of sets (op_of op) (edges_of edges list) (kind_of kind value_edges) shape
+  the_run = run_of sets spec
 
-  -- what is built of accepted edges and kinds
-  abbrev the_setup : Setup
-  the_setup = record { op = op; edges = made_edges edges; reducer = made kind; n_states = bins (edges_of edges list) }
+  abbrev n : ℕ
+  n = bins (edges_of spec.edges)
 
-  step_length : (q : points.Point × points.Point) (s : List Float) → length (pair_step the_setup list value_edges q s) ≡ length s
-  unfolding pair_step built_pair
-  step_length q s = go (built_bin (made_edges edges) list (squared_diff_norm q.0 q.1)) (datum_of (op_of op) q.0.rd q.1.rd)
+  states : setup.n_states ≡ n
+  states = setup.usable.states ∙ ap built_bins o.edges ∙ made_bins spec.edges
+
+  size : reducer_size setup.reducer ≡ kind_size (kind_of spec.kind)
+  size = ap reducer_size o.reducer ∙ made_size spec.kind
+
+  few : n ≤ 256
+  few = omega (arith, states, setup.usable.few)
+
+  small : kind_size (kind_of spec.kind) ≤ 256
+  small = omega (arith, size, setup.usable.small)
+
+  used_is : used the_run ≡ setup.n_states * reducer_size setup.reducer
+  unfolding run_of
+  used_is = λ i. sym states i * sym size i
+
+  -- ---- one pair at one place
+  pair_length : (p : Pair) (s : List Float) → length (pair_added setup p s) ≡ length s
+  pair_length dropped s = refl
+  pair_length (kept b d) s = consumed_length setup.n_states b d s setup.reducer
+
+  step_length : (q : points.Point × points.Point) (s : List Float) → length (pair_step setup q s) ≡ length s
+  unfolding pair_step
+  step_length q s = pair_length (built_pair setup q.0 q.1) s
+
+  -- the definitions' pair
+  abbrev stated_pair : points.Point × points.Point → Pair
+  stated_pair q = pair_in (bin_of (edges_of spec.edges) (squared_diff_norm q.0 q.1)) (datum_of (op_of spec.op) q.0.rd q.1.rd)
+
+  pair_is : (q : points.Point × points.Point) → built_pair setup q.0 q.1 ≡ stated_pair q
+  unfolding built_pair
+  pair_is q = λ i. pair_in ((ap (λ (e : BuiltEdges). built_bin e (squared_diff_norm q.0 q.1)) o.edges ∙ made_bin spec.edges (squared_diff_norm q.0 q.1)) i) (datum_of (op_of (o.op i)) q.0.rd q.1.rd)
+
+  step_at : (q : points.Point × points.Point) (s : List Float) (p : ℕ) → length s ≡ used the_run → p < used the_run → at (pair_step setup q s) p ≡ add_opt (pair_at the_run p q) (at s p)
+  unfolding pair_step run_of
+  step_at q s p e h = ap (λ (x : Pair). at (pair_added setup x s) p) (pair_is q) ∙ go (bin_of (edges_of spec.edges) (squared_diff_norm q.0 q.1)) refl
     where
-      go : (o : Option ℕ) (d : Datum) → length (pair_added the_setup value_edges (pair_in o d) s) ≡ length s
-      go None d = refl
-      go (Some b) d = consumed_length value_edges (bins (edges_of edges list)) b d s (made kind)
+      d : Datum
+      d = datum_of (op_of spec.op) q.0.rd q.1.rd
 
-  module _ (few : bins (edges_of edges list) ≤ 256) (small : kind_size (kind_of kind value_edges) ≤ 256) where
-    step_at : (q : points.Point × points.Point) (s : List Float) (p : ℕ) → length s ≡ used the_run → p < used the_run
-        → at (pair_step the_setup list value_edges q s) p ≡ add_opt (pair_at the_run p q) (at s p)
-    unfolding pair_step built_pair
-    step_at q s p e h = (rw (made_bin list edges (squared_diff_norm q.0 q.1))) ∙ go (bin_of (edges_of edges list) (squared_diff_norm q.0 q.1)) refl
-      where
-        d : Datum
-        d = datum_of (op_of op) q.0.rd q.1.rd
+      go : (b : Option ℕ) → bin_of (edges_of spec.edges) (squared_diff_norm q.0 q.1) ≡ b
+          → at (pair_added setup (pair_in b d) s) p ≡ add_opt (pair_term (kind_of spec.kind) (state_at n p) (number_at n p) (pair_in b d)) (at s p)
+      go None i = refl
+      go (Some b) i =
+          (λ j. at (consumed (o.reducer j) (states j) b d s) p)
+          ∙ consumed_at_law n b d s spec.kind
+          (room n (kind_size (kind_of spec.kind)) b (length s) (omega (arith, few)) (omega (arith, small)) (bin_bounded (edges_of spec.edges) (squared_diff_norm q.0 q.1) b i) (omega arith)) p (omega arith)
 
-        go : (o : Option ℕ) → bin_of (edges_of edges list) (squared_diff_norm q.0 q.1) ≡ o
-            → at (pair_added the_setup value_edges (pair_in o d) s) p
-            ≡ add_opt (pair_term (kind_of kind value_edges) (state_at (bins (edges_of edges list)) p) (number_at (bins (edges_of edges list)) p) (pair_in o d)) (at s p)
-        go None i = refl
-        go (Some b) i =
-            consumed_at_law value_edges (bins (edges_of edges list)) b d s kind
-            (room (bins (edges_of edges list)) (kind_size (kind_of kind value_edges)) b (length s) (omega arith) (omega arith) (bin_bounded (edges_of edges list) (squared_diff_norm q.0 q.1) b i) (omega arith)) p (omega arith)
+  -- ---- the whole of scratch, from zeros
+  filled_length : (l : List (points.Point × points.Point)) (s : List Float) → length (filled setup l s) ≡ length s
+  unfolding filled
+  filled_length [] s = refl
+  filled_length (a ∷ l) s = filled_length l (pair_step setup a s) ∙ step_length a s
 
-    -- ---- the whole of scratch, from zeros
-    filled_length : (l : List (points.Point × points.Point)) (s : List Float) → length (filled the_setup list value_edges l s) ≡ length s
-    unfolding filled
-    filled_length [] s = refl
-    filled_length (a ∷ l) s = filled_length l (pair_step the_setup list value_edges a s) ∙ step_length a s
+  filled_at : (l : List (points.Point × points.Point)) (p : ℕ) → p < used the_run
+      → at (filled setup l (replicate (used the_run) (zero_f false))) p ≡ fold_at (pair_at the_run p) (zero_f false) l
+  unfolding filled
+  filled_at l p h =
+      placewise (pair_step setup) (used the_run) (λ p q. pair_at the_run p q) step_length step_at l (replicate (used the_run) (zero_f false)) p
+      (length-replicate (used the_run) (zero_f false)) h
+      ∙ ap (λ (x : Float). fold_at (pair_at the_run p) x l) (zero_at (used the_run) p h)
 
-    filled_at : (l : List (points.Point × points.Point)) (p : ℕ) → p < used the_run
-        → at (filled the_setup list value_edges l (replicate (used the_run) (zero_f false))) p ≡ fold_at (pair_at the_run p) (zero_f false) l
-    unfolding filled
-    filled_at l p h =
-        placewise (pair_step the_setup list value_edges) (used the_run) (λ p q. pair_at the_run p q) step_length step_at l (replicate (used the_run) (zero_f false)) p
-        (length-replicate (used the_run) (zero_f false)) h
-        ∙ ap (λ (x : Float). fold_at (pair_at the_run p) x l) (zero_at (used the_run) p h)
-
-pub scratch_is : (r : Run) (sets : Sets) (p : ℕ) → r.sets ≡ sets_of sets → scratch r p ≡ fold_at (pair_at r p) (zero_f false) (sets_pairs sets)
+pub scratch_is : (r : Run) (sets : Sets PointSet) (p : ℕ) → r.sets ≡ sets_of sets → scratch r p ≡ fold_at (pair_at r p) (zero_f false) (sets_pairs sets)
 unfolding run.scratch run.scratch_of
 scratch_is r (Auto a) p e = rw e
 scratch_is r (Cross a b) p e = rw e
 
--- ---- an accepted run; pairs are what the sets hold, in order
-pub driven : (sets : Sets) (edges : Edges) (list : List Float) (kind : Kind) (value_edges : List Float) (op : PairOperation) (shape : Shape) (pairs : List (points.Point × points.Point)) (s q : List Float) (be : BuiltEdges)
-    (rd : Reducer) → Drivable (edges_of edges list) (kind_of kind value_edges) shape (length s) → be ≡ built_edges edges → rd ≡ built_reducer kind → pairs ≡ sets_pairs sets
-    → q
-    ≡ added_scratch s
-    (filled (record { op = op; edges = be; reducer = rd; n_states = shape.n_states }) list value_edges pairs (take (shape.n_states * shape.state_size) zero_pack))
-    → q ≡ merged (sets_run (sets_of sets) edges list kind value_edges op shape) s
-unfolding sets_run
-driven sets edges list kind value_edges op shape pairs s q be rd d eb er same h =
-    let x = eb ∙ built_made edges list d.edges in
-    let y = er ∙ reducer_made kind value_edges d.values in
-    let n = bins (edges_of edges list) * kind_size (kind_of kind value_edges) in
-    let u = (λ i. take (d.states i * d.size i) zero_pack) ∙ lent_zeros zero_pack n d.limit refl in
+-- ---- an accepted run; its points are what the sets hold, in order
+pub driven : (setup : Setup) (spec : RunSpec) (sets : Sets PointSet) (held : Sets Points) (s q : List Float) → SetupOf spec setup → Drivable spec (length s) → pairs_in held ≡ sets_pairs sets
+    → q ≡ added_scratch s (run_filled setup held (take (setup.n_states * reducer_size setup.reducer) zero_pack)) → q ≡ merged (run_of (sets_of sets) spec) s
+unfolding run_of
+driven setup spec sets held s q o d same h =
+    let r = run_of (sets_of sets) spec in
+    let m = used r in
+    let e = used_is setup spec o (sets_of sets) in
+    let u : take (setup.n_states * reducer_size setup.reducer) zero_pack ≡ replicate m (zero_f false) = ap (λ (k : ℕ). take k zero_pack) (sym e) ∙ lent_zeros zero_pack m d.limit refl in
     h
-    ∙ (λ i. added_scratch s (filled (record { op = op; edges = x i; reducer = y i; n_states = d.states i }) list value_edges (same i) (u i)))
-    ∙ added_merged (the_run list value_edges edges kind op shape (sets_of sets)) s _
-    (filled_length list value_edges edges kind op shape (sets_of sets) d.few d.small _ _ ∙ length-replicate n (zero_f false)) d.within
-    (λ p l.
-    filled_at list value_edges edges kind op shape (sets_of sets) d.few d.small _ p l
-    ∙ sym (scratch_is (the_run list value_edges edges kind op shape (sets_of sets)) sets p refl))
+    ∙ (λ i. added_scratch s (filled setup (same i) (u i)))
+    ∙ added_merged r s _ (filled_length setup spec o (sets_of sets) (sets_pairs sets) _ ∙ length-replicate m (zero_f false)) d.within
+    (λ p l. filled_at setup spec o (sets_of sets) (sets_pairs sets) p l ∙ sym (scratch_is r sets p refl))
 
--- accepted edges and value edges can be looked up by tables
-pub usable_run : (edges : Edges) (list : List Float) (kind : Kind) (value_edges : List Float) (shape : Shape) (len : ℕ) → Drivable (edges_of edges list) (kind_of kind value_edges) shape len
-    → ((i : ℕ) → T (fits binary64 (at list i))) → ((i : ℕ) → T (fits binary64 (at value_edges i))) → (setup : Setup) → setup.edges ≡ built_edges edges → setup.reducer ≡ built_reducer kind → setup.n_states ≡ shape.n_states → UsableRun setup list value_edges
-usable_run edges list kind value_edges shape len d f g setup eb er en =
-    record {
-      edges = subst (λ (e : BuiltEdges). Usable e list) (sym (eb ∙ built_made edges list d.edges)) (usable_made list f edges d.edges);
-      values = subst (λ (r : Reducer). UsableValues r value_edges) (sym (er ∙ reducer_made kind value_edges d.values)) (usable_values_made value_edges g kind d.values);
-      states = en ∙ d.states ∙ sym (ap (λ (e : BuiltEdges). built_bins e (length list)) (eb ∙ built_made edges list d.edges) ∙ made_bins list edges);
-    }
-
-pub from_zeros : (run : declared.Run) (sets : Pairing) (s q t u : List Float) → t ≡ u → q ≡ added_scratch s (run_filled run sets t) → q ≡ added_scratch s (run_filled run sets u)
-from_zeros run sets s q t u e h = h ∙ ap (λ (z : List Float). added_scratch s (run_filled run sets z)) e
+pub from_zeros : (setup : Setup) (sets : Sets Points) (s q t u : List Float) → t ≡ u → q ≡ added_scratch s (run_filled setup sets t) → q ≡ added_scratch s (run_filled setup sets u)
+from_zeros setup sets s q t u e h = h ∙ ap (λ (z : List Float). added_scratch s (run_filled setup sets z)) e
 
 -- scratch after the loops, then added
 pub added_filled : (s t u q : List Float) → t ≡ u → q ≡ added_scratch s t → q ≡ added_scratch s u
@@ -146,15 +134,3 @@ pub held_points : (set : PointSet) (k : ℕ) → k ≡ stride_or set.n_points se
     → map (λ i. points.point_at (record { count = i; stated = Some k; positions = set.positions.now; values = set.values.now; weights = set.weights.now }) i) (upto set.n_points)
     ≡ points.points (points_of set)
 held_points set k q = rw q
-
--- ---- what follows where a run has no refusal
-module _ (sets : Sets) (edges : Edges) (list : List Float) (kind : Kind) (value_edges : List Float) (shape : Shape) (s : List Float) (x : Result (Unit {0}) Refusal)
-    (h : number_of x ≡ sets_number (sets_of sets) (edges_of edges list) (kind_of kind value_edges) shape (length s)) where
-  module _ (v : Unit {0}) (z : x ≡ Ok v) where
-    all : Accepted (over_sets (sets_of sets)) (refusal (set_rules (sets_of sets))) (refusal (pair_rules (sets_of sets))) (edges_of edges list) (kind_of kind value_edges) shape (length s)
-    unfolding drive.sets_number
-    all = accepted (over_sets (sets_of sets)) (refusal (set_rules (sets_of sets))) (refusal (pair_rules (sets_of sets))) (edges_of edges list) (kind_of kind value_edges) shape (length s) (sym h ∙ ap number_of z)
-
-    -- what `drive` asks
-    pub drivable : HeldSets sets × Drivable (edges_of edges list) (kind_of kind value_edges) shape (length s)
-    drivable = (held_sets sets all.limits all.own, all.drivable)

@@ -1,15 +1,11 @@
 -- What the parameters of a run over points stand for in the definitions.
-use Rattle.std.specs.Prelude.{List, Float}
 use Rattle.definitions.specs.Points.{UnstructuredPoints}
 use Rattle.definitions.specs.Run.{one_points, two_points, Run}
-use Rattle.reducer.specs.declared.PairOperation.{PairOperation}
-use Rattle.reducer.specs.declared.Edges.{Edges}
-use Rattle.reducer.specs.declared.Kind.{Kind}
-use Rattle.parallel_serial.specs.declared.Shape.{Shape}
-use Rattle.parallel_serial.specs.Drive.{sets_run}
+use Rattle.parallel_serial.specs.declared.RunSpec.{RunSpec}
+use Rattle.parallel_serial.specs.Drive.{run_of}
 
-abbrev pub auto_run : UnstructuredPoints → Edges → List Float → Kind → List Float → PairOperation → Shape → Run
-auto_run a edges list kind value_edges op shape = sets_run (one_points a) edges list kind value_edges op shape
+abbrev pub auto_run : UnstructuredPoints → RunSpec → Run
+auto_run a spec = run_of (one_points a) spec
 
-abbrev pub cross_run : UnstructuredPoints → UnstructuredPoints → Edges → List Float → Kind → List Float → PairOperation → Shape → Run
-cross_run a b edges list kind value_edges op shape = sets_run (two_points a b) edges list kind value_edges op shape
+abbrev pub cross_run : UnstructuredPoints → UnstructuredPoints → RunSpec → Run
+cross_run a b spec = run_of (two_points a b) spec

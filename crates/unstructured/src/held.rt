@@ -1,11 +1,14 @@
 // What a run over points reads and writes, with what is known of it.
 #![tactic(auto)]
 
-ghost use Rattle.std.specs.Prelude.{◌≡◌, length};
-ghost use Rattle.unstructured.specs.Held.{Readable, Parts, Listed, UsableRun, UsableRun-prop, TabledRun, TabledRun-prop};
+ghost use Rattle.std.specs.Prelude.{◌≡◌, length, option_map};
+ghost use Rattle.std.proofs.Props.{props};
+ghost use Rattle.edge_table.specs.Tabled.{Tabled, Tabled-prop};
+ghost use Rattle.unstructured.specs.Held.{Readable, Parts, Listed, value_edges};
 
-use edge_table::Table;
+use edge_table::{Ends, Table};
 use parallel_serial::Setup;
+use reducer::BuiltEdges;
 
 // A set of n points, whose slices hold them: component k of point i is at k times the stride plus i.
 #[derive(Clone, Copy)]
@@ -18,50 +21,45 @@ pub struct Points<'a> {
     ghost held: { Readable positions.now values.now weights.now n stride },
 }
 
-// The sets of a run, as unstructured_points' Sets, but each known to hold its points.
+// A run and the ends of its edges, for lookups of one distance.
 #[derive(Clone, Copy)]
-pub enum Pairing<'a> {
-    Auto(Points<'a>),
-    Cross(Points<'a>, Points<'a>),
+pub struct Searched<'a> {
+    pub setup: &'a Setup<'a>,
+    pub ends: Ends,
+    ghost tabled: { Tabled setup.now.edges ends } by { Tabled-prop setup.now.edges ends },
 }
 
-// A run, whose edges and value edges can be looked up by tables.
+// Edges and their table.
 #[derive(Clone, Copy)]
-pub struct Run<'a> {
-    pub setup: Setup,
-    pub list: &'a [f64],
-    pub value_edges: &'a [f64],
-    ghost usable: { UsableRun setup list.now value_edges.now } by { UsableRun-prop setup list.now value_edges.now },
+pub struct EdgeTable<'a> {
+    pub edges: BuiltEdges<'a>,
+    pub table: Table,
+    ghost tabled: { Tabled edges table.ends } by { Tabled-prop edges table.ends },
 }
 
-// Ends of the distance edges and of the value edges, and where their hints are.
-#[derive(Clone, Copy)]
-pub struct Tables {
-    pub edges: Table,
-    pub values: Table,
-}
-
-// A run with its tables and hints; these are arrays, so that the lookups know their length.
+// A run with the table of its edges and, of a histogram, of its value edges, and their hints. These are arrays, whose length is known at the lookup: as slices
+// they cost 3 to 6% with irregular edges (docs/DECISIONS.md).
 #[derive(Clone, Copy)]
 pub struct Lookups<'a> {
-    pub run: Run<'a>,
-    pub tables: Tables,
+    pub setup: Setup<'a>,
+    pub edges: EdgeTable<'a>,
     pub hints: &'a [u8; 4096],
+    pub values: Option<EdgeTable<'a>>,
     pub value_hints: &'a [u8; 4096],
-    ghost tabled: { TabledRun run.setup run.list.now run.value_edges.now tables } by { TabledRun-prop run.setup run.list.now run.value_edges.now tables },
+    ghost edges_are: { edges.edges ≡ setup.edges } by { Prim.hlevel props },
+    ghost values_are: { option_map (λ v. v.edges) values ≡ value_edges setup.reducer } by { Prim.hlevel props },
 }
 
-// The listed places of a batch of m points, and its readings, in parts of the slices that start at its first point: a place is the index itself.
+// The listed places of a batch, and its readings, in parts of the slices that start at its first point: a place is the index itself.
 #[derive(Clone, Copy)]
 pub struct Readings<'a> {
     pub c0: &'a [f64],
     pub c1: &'a [f64],
     pub c2: &'a [f64],
     pub w: &'a [f64],
-    pub m: usize,
     pub places: &'a [usize],
-    ghost parts: { Parts m c0.now c1.now c2.now w.now },
-    ghost listed: { Listed m places.now },
+    ghost parts: { Parts c0.now c1.now c2.now w.now },
+    ghost listed: { Listed (length w.now) places.now },
 }
 
 // The same with the numbers of the listed pairs' bins and of their values' bins.
@@ -74,11 +72,18 @@ pub struct Found<'a> {
     ghost values_len: { length values.now ≡ length readings.places.now },
 }
 
-// The room of a batch.
+// The room of a batch: four arrays, not one of structs, since each loop goes over one or two of them, and a mean has no values.
 #[derive(Drop)]
 pub struct Room {
     pub d: [f64; 256],
     pub places: [usize; 256],
-    pub found: [usize; 256],
-    pub value_found: [usize; 256],
+    pub bins: [usize; 256],
+    pub values: [usize; 256],
+}
+
+// A run in batches, and their room.
+#[derive(Drop)]
+pub struct Batches<'a> {
+    pub look: &'a Lookups<'a>,
+    pub room: Room,
 }

@@ -1,34 +1,37 @@
 // Two-point runs over unstructured points.
 #![tactic(auto)]
 
-ghost use Rattle.std.specs.Prelude.{◌≡◌, ℕ, ◌+◌, ◌-◌, ◌<◌, ◌≤◌, length, get_or, take};
+ghost use Rattle.std.specs.Prelude.{◌≡◌, ℕ, ◌+◌, ◌*◌, ◌<◌, ◌≤◌, length, get_or, take, map, option_map};
 ghost use Rattle.std.specs.Float.{nan};
 ghost use Rattle.definitions.specs.Points.{points, squared_diff_norm};
-ghost use Rattle.definitions.specs.Run.{merged};
+ghost use Rattle.definitions.specs.Reducer.{pair_in, datum_of};
 ghost use Rattle.definitions.specs.Rules.{refusal, run_rules, step};
 ghost use Rattle.refusals.specs.Numbers.{number_of};
-ghost use Rattle.reducer.specs.Readings.{edges_of, kind_of, reading_of};
-ghost use Rattle.edge_table.specs.Tabled.{Tabled};
-ghost use Rattle.parallel_serial.specs.Drive.{zero_pack, added_scratch, sets_run};
-ghost use Rattle.parallel_serial.proofs.Refusals.{Drivable};
+ghost use Rattle.reducer.specs.Readings.{op_of, reading_of};
+ghost use Rattle.reducer.specs.Consume.{reducer_size};
+ghost use Rattle.reducer.specs.Usable.{Usable, UsableValues};
+ghost use Rattle.edge_batch.specs.Batch.{number_in};
+ghost use Rattle.parallel_serial.specs.Drive.{zero_pack, added_scratch, run_of};
 ghost use Rattle.unstructured_points.specs.Readings.{points_of, the_point};
 ghost use Rattle.unstructured_points.specs.Sets.{sets_of};
 ghost use Rattle.unstructured.specs.Readings.{auto_run, cross_run};
-ghost use Rattle.unstructured.specs.Pairs.{the_pair, point_in, points_in, Held, HeldSets, sets_pairs, pairs_in, first_set, second_set, first_partner};
-ghost use Rattle.unstructured.specs.Pairs.{built_pair, pair_added, run_row, run_filled};
-ghost use Rattle.unstructured.specs.Batches.{reading_in, kept_below, picked, numbered_pair, pair_placed, value_numbers};
+ghost use Rattle.unstructured.specs.Held.{value_edges};
+ghost use Rattle.unstructured.specs.Pairs.{the_pair, pair_kept, point_in, points_in, Held, HeldSets, sets_pairs, pairs_in, first_partner};
+ghost use Rattle.unstructured.specs.Pairs.{built_pair, pair_added, row_added, row_from, run_filled};
+ghost use Rattle.unstructured.specs.Batches.{reading_in, kept_below, picked, numbered_pair, pair_placed};
 ghost use Rattle.unstructured.specs.Batches.{values_in, found_added, weights_added, listed_added};
 
 mod held;
 
-use edge_table::Table;
-use held::{Found, Lookups, Pairing, Points, Readings, Room, Run, Tables};
-use parallel_serial::{Setup, Shape};
-use reducer::{BuiltEdges, Datum, Edges, Kind, PairOperation, Reducer};
+use edge_batch::Lookup;
+use edge_table::Ends;
+use held::{Batches, EdgeTable, Found, Lookups, Points, Readings, Room, Searched};
+use parallel_serial::{RunSpec, Sets, Setup};
+use reducer::{BinEdges, BuiltEdges, BuiltReducer, Datum, PairOperation, Reducer};
 use refusals::Refusal;
-use unstructured_points::{Point, PointSet, Sets};
+use unstructured_points::{Point, PointSet};
 
-// What a pair yields: a bin, three component values and a weight, or nothing.
+// What a pair yields: a bin, three component values and a weight, or nothing. Document 01 names this form.
 #[derive(Clone, Copy)]
 pub enum Pair {
     Kept(usize, f64, f64, f64, f64),
@@ -38,6 +41,7 @@ pub enum Pair {
 // ---- pairs
 
 impl Points<'_> {
+    #[tactic(auto, unfolding(crate::specs::Pairs::point_in))]
     fn point_at(&self, i: usize) -> Point
         requires { i < self.now.n }
         ensures { the_point result ≡ point_in self.now i }
@@ -57,73 +61,142 @@ impl Points<'_> {
     }
 }
 
-// The pair of two points of these readings, whose bin has this number; dropped if that is past the bins.
-fn pair_of(setup: Setup, first: Datum, second: Datum, bin: usize) -> Pair
-    ensures { the_pair result ≡ numbered_pair setup (reading_of first) (reading_of second) bin }
-{
-    if bin >= setup.n_states {
-        return Pair::Dropped;
+impl Pair {
+    // The pair of two points of these readings in a bin; dropped where there is none.
+    fn new(op: PairOperation, first: Datum, second: Datum, bin: Option<usize>) -> Pair
+        ensures { the_pair result ≡ pair_in bin (datum_of (op_of op) (reading_of first) (reading_of second)) }
+    {
+        match bin {
+            Some(bin) => {
+                let d = reducer::datum_of(op, first, second);
+                Pair::Kept(bin, d.c0, d.c1, d.c2, d.weight)
+            }
+            None => Pair::Dropped,
+        }
     }
-    let d = reducer::datum_of(setup.op, first, second);
-    Pair::Kept(bin, d.c0, d.c1, d.c2, d.weight)
+
+    // The bin and the datum of one that is kept.
+    fn kept(self) -> Option<(usize, Datum)>
+        ensures { the_pair self ≡ pair_kept result }
+    {
+        match self {
+            Pair::Kept(bin, c0, c1, c2, weight) => Some((bin, Datum { c0, c1, c2, weight })),
+            Pair::Dropped => None,
+        }
+    }
+}
+
+// The pair of two points of these readings, whose bin has this number; dropped if that is past the bins.
+#[tactic(auto, unfolding(crate::specs::Batches::numbered_pair))]
+fn pair_of(setup: &Setup, first: Datum, second: Datum, bin: usize) -> Pair
+    ensures { the_pair result ≡ numbered_pair setup.now (reading_of first) (reading_of second) bin }
+{
+    Pair::new(
+        setup.op,
+        first,
+        second,
+        (bin < setup.n_states).then_some(bin),
+    )
 }
 
 // number is that of the value's bin, which a histogram has.
-fn add_pair(setup: Setup, value_len: usize, number: usize, pair: Pair, scratch: &mut [f64])
-    ensures { scratch.new ≡ pair_placed setup value_len number (the_pair pair) scratch.old }
+fn add_pair(setup: &Setup, number: usize, pair: Pair, scratch: &mut [f64])
+    ensures { scratch.new ≡ pair_placed setup.now number (the_pair pair) scratch.old }
 {
-    match pair {
-        Pair::Kept(bin, c0, c1, c2, weight) => {
-            let kind = setup.reducer;
-            let datum = Datum { c0, c1, c2, weight };
-            reducer::consume_at(
-                kind,
-                value_len,
-                Some(number),
-                setup.n_states,
-                bin,
-                datum,
-                scratch,
-            )
-        }
-        Pair::Dropped => {}
+    if let Some((bin, datum)) = pair.kept() {
+        reducer::consume_at(
+            setup.reducer,
+            Some(number),
+            setup.n_states,
+            bin,
+            datum,
+            scratch,
+        );
+    }
+}
+
+// The same with the value looked up, by the reducer alone; so it is a function of its own.
+fn consume_pair(setup: &Setup, pair: Pair, scratch: &mut [f64])
+    ensures { scratch.new ≡ pair_added setup.now (the_pair pair) scratch.old }
+{
+    if let Some((bin, datum)) = pair.kept() {
+        reducer::consume(setup.reducer, setup.n_states, bin, datum, scratch);
+    }
+}
+
+// ---- all pairs of a run, by rows
+
+// A way to add the pairs of a point with those of a set from `from` on.
+trait Rows {
+    ghost use Rattle.parallel_serial.specs.declared.Setup.{Setup};
+
+    ghost setup: { Self → Setup };
+
+    fn add_row(&mut self, a: Point, set: &Points, from: usize, scratch: &mut [f64])
+        ensures row { scratch.new ≡ row_from (setup self.old) (the_point a) set.now from scratch.old }
+        ensures same { setup self.new ≡ setup self.old };
+}
+
+// Auto pairs only a later second.
+fn first_partner(sets: &Sets<Points>, i: usize) -> usize
+    requires { i < 4096 }
+    ensures { result ≡ first_partner sets.now i }
+{
+    match sets {
+        Sets::Auto(_) => i + 1,
+        Sets::Cross(_, _) => 0,
+    }
+}
+
+// All pairs of the run, first point ascending, second ascending within it.
+#[tactic(auto, using(crate::proofs::Loops::rows_start))]
+fn fill_rows<R: Rows>(rows: &mut R, sets: &Sets<Points>, scratch: &mut [f64])
+    ensures { scratch.new ≡ run_filled (R.setup rows.old) sets.now scratch.old }
+{
+    let first = sets.first();
+    let second = sets.second();
+    for i in 0..first.n {
+        let a = first.point_at(i);
+        let from = first_partner(sets, i);
+        rows.add_row(a, &second, from, &mut *scratch);
     }
 }
 
 // ---- rows in batches: distances first, then the places within the ends of the edges, then their pairs
 
-// The squared distances from a to m points of the second set, from point j on.
-fn distances(a: Point, set: &Points, j: usize, m: usize, d: &mut [f64])
-    requires few { j + m ≤ set.now.n }
-    requires d_room { m ≤ length d.old }
-    ensures { (e : ℕ) → e < m → get_or d.new e nan ≡ squared_diff_norm (the_point a) (point_in set.now (j + e)) }
+// The squared distances from a to points of the second set, from point j on.
+fn distances(a: Point, set: &Points, j: usize, d: &mut [f64])
+    requires { j + length d.old ≤ set.now.n }
+    ensures { (e : ℕ) → e < length d.old → get_or d.new e nan ≡ squared_diff_norm (the_point a) (point_in set.now (j + e)) }
 {
-    for e in 0..m {
+    for (e, distance) in d.iter_mut().enumerate() {
         let b = set.point_at(j + e);
-        d[e] = unstructured_points::squared_diff_norm(a, b);
+        *distance = unstructured_points::squared_diff_norm(a, b);
     }
 }
 
-// The places of the first m distances that are not outside, in order, and their distances at the front of d; without a branch.
-fn list_inside(table: Table, m: usize, d: &mut [f64], places: &mut [usize]) -> usize
-    requires { (m ≤ length d.old) × (m ≤ length places.old) }
-    ensures { (result ≤ m) × (take result places.new ≡ kept_below table.first table.last d.old m)
-        × (take result d.new ≡ picked d.old (kept_below table.first table.last d.old m)) }
+// The places of the distances within the ends, in order, and these distances at the front of d; without a branch. d is read at e and
+// written at c, so no iterator can hold it.
+fn list_inside(ends: Ends, d: &mut [f64], places: &mut [usize]) -> usize
+    requires { length d.old ≤ length places.old }
+    ensures { (result ≤ length d.old) × (take result places.new ≡ kept_below ends d.old (length d.old))
+        × (take result d.new ≡ picked d.old (kept_below ends d.old (length d.old))) }
 {
     let mut c = 0;
-    for e in 0..m {
+    for e in 0..d.len() {
         let value = d[e];
         places[c] = e;
         d[c] = value;
-        c += edge_table::flag(table, value);
+        c += usize::from(ends.is_within(value));
     }
     c
 }
 
 impl Readings<'_> {
-    // The reading at place k of a batch.
+    // The reading at place k of a batch. One function for this and a block's `cell_at` would be public, and could not ask that k is in the slices.
+    #[tactic(auto, unfolding(crate::specs::Batches::reading_in))]
     fn reading_at(self, k: usize) -> Datum
-        requires { k < self.m }
+        requires { k < length self.w.now }
         ensures { reading_of result ≡ reading_in self.entry k }
     {
         Datum {
@@ -135,67 +208,56 @@ impl Readings<'_> {
     }
 }
 
+impl EdgeTable<'_> {
+    // The numbers of the values' bins. INSIDE: no value is past an end of the edges.
+    #[tactic(auto, using(edge_batch::proofs::Batch::found_bins))]
+    fn bins_of<const INSIDE: bool>(&self, hints: &[u8; 4096], x: &[f64], found: &mut [usize])
+        requires { length found.old ≡ length x.now }
+        ensures { found.new ≡ map (number_in INSIDE self.now.edges) x.now }
+    {
+        let look = Lookup {
+            edges: self.edges,
+            table: self.table,
+            hints: &hints[..],
+        };
+        edge_batch::bins_of::<INSIDE>(look, x, found);
+    }
+}
+
 // The values of the pairs of a point, whose reading is first, with the listed ones of a batch.
 fn pair_values(op: PairOperation, first: Datum, readings: &Readings, d: &mut [f64])
     requires { length d.old ≡ length readings.now.places.now }
     ensures { d.new ≡ values_in (reading_of first) readings.now op }
 {
     let readings = *readings;
-    for q in 0..readings.places.len() {
+    for (q, value) in d.iter_mut().enumerate() {
         let second = readings.reading_at(readings.places[q]);
-        d[q] = reducer::component_sum(reducer::datum_of(op, first, second));
-    }
-}
-
-// The numbers of the values' bins, which a histogram has. d is room.
-fn value_bins(look: &Lookups, first: Datum, readings: &Readings, d: &mut [f64], found: &mut [usize])
-    requires { (length d.old ≡ length readings.now.places.now) × (length found.old ≡ length readings.now.places.now) }
-    ensures { found.new ≡ value_numbers look.now.run.setup.reducer look.now.run.value_edges.now
-        (values_in (reading_of first) readings.now look.now.run.setup.op) found.old }
-{
-    let run = &look.run;
-    match run.setup.reducer {
-        Reducer::Comp0Mean => {}
-        Reducer::ComponentSumMean => {}
-        Reducer::ComponentSumHistogram(edges) => {
-            pair_values(run.setup.op, first, readings, &mut *d);
-            let hints = look.value_hints;
-            edge_batch::bins_of(
-                false,
-                edges,
-                run.value_edges,
-                hints,
-                look.tables.values,
-                &*d,
-                found,
-            );
-        }
+        *value = reducer::component_sum(reducer::datum_of(op, first, second));
     }
 }
 
 // The pairs of a point with the listed ones, whose bins and whose values' bins have been found.
-fn add_pairs(setup: Setup, value_len: usize, first: Datum, found: &Found, scratch: &mut [f64])
-    ensures { scratch.new ≡ found_added setup value_len (reading_of first) found.now scratch.old }
+#[tactic(auto, unfolding(crate::specs::Batches::placed_to))]
+fn add_pairs(setup: &Setup, first: Datum, found: &Found, scratch: &mut [f64])
+    ensures { scratch.new ≡ found_added setup.now (reading_of first) found.now scratch.old }
 {
+    let setup = *setup;
+    let found = *found;
     let readings = found.readings;
+    // By an index, here and in add_weights: three slices are read, and a zip of them is no plainer.
     for q in 0..readings.places.len() {
         let second = readings.reading_at(readings.places[q]);
-        let pair = pair_of(setup, first, second, found.bins[q]);
-        add_pair(setup, value_len, found.values[q], pair, &mut *scratch);
+        let pair = pair_of(&setup, first, second, found.bins[q]);
+        add_pair(&setup, found.values[q], pair, &mut *scratch);
     }
 }
 
 // The weights of a histogram's pairs: each is the first point's times the second's. What is past the states or the values' bins has no room.
-fn add_weights(
-    edges: BuiltEdges,
-    value_len: usize,
-    n_states: usize,
-    weight: f64,
-    found: &Found,
-    scratch: &mut [f64],
-)
-    ensures { scratch.new ≡ weights_added edges value_len n_states weight found.now scratch.old }
+#[tactic(auto, using(crate::proofs::Batches::weights_none, crate::proofs::Batches::weights_next))]
+fn add_weights(edges: BuiltEdges, n_states: usize, weight: f64, found: &Found, scratch: &mut [f64])
+    ensures { scratch.new ≡ weights_added edges.entry n_states weight found.now scratch.old }
 {
+    let found = *found;
     let readings = found.readings;
     for q in 0..readings.places.len() {
         let datum = Datum {
@@ -206,7 +268,6 @@ fn add_weights(
         };
         reducer::consume_at(
             Reducer::ComponentSumHistogram(edges),
-            value_len,
             Some(found.values[q]),
             n_states,
             found.bins[q],
@@ -217,54 +278,42 @@ fn add_weights(
 }
 
 // The pairs of a point with the listed ones; a histogram's by their weights alone.
-fn add_found(setup: Setup, value_len: usize, first: Datum, found: &Found, scratch: &mut [f64])
-    ensures { scratch.new ≡ found_added setup value_len (reading_of first) found.now scratch.old }
+fn add_found(setup: &Setup, first: Datum, found: &Found, scratch: &mut [f64])
+    ensures { scratch.new ≡ found_added setup.now (reading_of first) found.now scratch.old }
 {
     match setup.reducer {
-        Reducer::ComponentSumHistogram(edges) => add_weights(
-            edges,
-            value_len,
-            setup.n_states,
-            first.weight,
-            found,
-            scratch,
-        ),
-        _ => add_pairs(setup, value_len, first, found, scratch),
+        Reducer::ComponentSumHistogram(edges) => {
+            add_weights(edges, setup.n_states, first.weight, found, scratch)
+        }
+        _ => add_pairs(setup, first, found, scratch),
     }
 }
 
-// The pairs of a point with the listed ones, whose distances are in d. d, found and value_found are room.
+// The pairs of a point with the listed ones, whose distances are in d. All three slices are room.
 fn add_places(
     look: &Lookups,
     first: Datum,
     readings: &Readings,
     d: &mut [f64],
-    found: &mut [usize],
-    value_found: &mut [usize],
+    bins: &mut [usize],
+    values: &mut [usize],
     scratch: &mut [f64],
 )
-    requires { (length d.old ≡ length readings.now.places.now) × (length found.old ≡ length readings.now.places.now)
-        × (length value_found.old ≡ length readings.now.places.now) }
-    ensures { scratch.new ≡ listed_added look.now.run (reading_of first) readings.now d.old value_found.old scratch.old }
+    requires { (length d.old ≡ length readings.now.places.now) × (length bins.old ≡ length readings.now.places.now)
+        × (length values.old ≡ length readings.now.places.now) }
+    ensures { scratch.new ≡ listed_added look.now.setup (reading_of first) readings.now d.old values.old scratch.old }
 {
-    let run = &look.run;
-    let hints = look.hints;
-    edge_batch::bins_of(
-        true,
-        run.setup.edges,
-        run.list,
-        hints,
-        look.tables.edges,
-        &*d,
-        &mut *found,
-    );
-    value_bins(look, first, readings, d, &mut *value_found);
+    look.edges.bins_of::<true>(look.hints, &*d, &mut *bins);
+    if let Some(edges) = look.values {
+        pair_values(look.setup.op, first, readings, &mut *d);
+        edges.bins_of::<false>(look.value_hints, &*d, &mut *values);
+    }
     let found = Found {
         readings: *readings,
-        bins: &*found,
-        values: &*value_found,
+        bins: &*bins,
+        values: &*values,
     };
-    add_found(run.setup, run.value_edges.len(), first, &found, scratch);
+    add_found(&look.setup, first, &found, scratch);
 }
 
 // The pairs of a with m points from j on.
@@ -279,20 +328,20 @@ fn add_batch(
 )
     requires few { j + m ≤ set.now.n }
     requires m_room { m ≤ 256 }
-    ensures { scratch.new ≡ run_row look.now.run (the_point a) set.now j m scratch.old }
+    ensures { scratch.new ≡ row_added look.now.setup (the_point a) (point_in set.now) j m scratch.old }
 {
     let d = &mut room.d[..];
     let places = &mut room.places[..];
-    let found = &mut room.found[..];
-    let value_found = &mut room.value_found[..];
-    distances(a, set, j, m, &mut *d);
-    let c = list_inside(look.tables.edges, m, &mut *d, &mut *places);
+    let bins = &mut room.bins[..];
+    let values = &mut room.values[..];
+    let d = &mut d[..m];
+    distances(a, set, j, &mut *d);
+    let c = list_inside(look.edges.table.ends, &mut *d, &mut *places);
     let readings = Readings {
         c0: &set.values[j..],
         c1: &set.values[set.stride + j..],
         c2: &set.values[2 * set.stride + j..],
         w: &set.weights[j..],
-        m,
         places: &places[..c],
     };
     add_places(
@@ -300,74 +349,24 @@ fn add_batch(
         a.rd,
         &readings,
         &mut d[..c],
-        &mut found[..c],
-        &mut value_found[..c],
+        &mut bins[..c],
+        &mut values[..c],
         scratch,
     );
 }
 
-// The pairs of a with the points from `from` on, in batches. A `while`: a `for` would need the number of batches and each one's first point by a product, which is no plainer.
-fn add_batches(
-    look: &Lookups,
-    a: Point,
-    set: &Points,
-    from: usize,
-    room: &mut Room,
-    scratch: &mut [f64],
-)
-    ensures { scratch.new ≡ run_row look.now.run (the_point a) set.now from (set.now.n - from) scratch.old }
-{
-    let mut j = from;
-    while j < set.n {
-        let m = (set.n - j).min(256);
-        add_batch(look, a, set, j, m, &mut *room, &mut *scratch);
-        j += m;
-    }
-}
+impl Rows for Batches<'_> {
+    ghost setup = { λ rows. rows.look.now.setup };
 
-// ---- the sets of a run
-
-impl<'a> Pairing<'a> {
-    fn first_set(&self) -> &Points<'a>
-        ensures { result.now ≡ first_set self.now }
-    {
-        match self {
-            Pairing::Auto(a) => a,
-            Pairing::Cross(a, _) => a,
+    // A `while`: a `for` would need the number of batches and each one's first point by a product, which is no plainer.
+    fn add_row(&mut self, a: Point, set: &Points, from: usize, scratch: &mut [f64]) {
+        let look = self.look;
+        let mut j = from;
+        while j < set.n {
+            let m = (set.n - j).min(256);
+            add_batch(look, a, set, j, m, &mut self.room, &mut *scratch);
+            j += m;
         }
-    }
-
-    fn second_set(&self) -> &Points<'a>
-        ensures { result.now ≡ second_set self.now }
-    {
-        match self {
-            Pairing::Auto(a) => a,
-            Pairing::Cross(_, b) => b,
-        }
-    }
-
-    // Auto pairs only a later second.
-    fn first_partner(&self, i: usize) -> usize
-        requires { i < 4096 }
-        ensures { result ≡ first_partner self.now i }
-    {
-        match self {
-            Pairing::Auto(_) => i + 1,
-            Pairing::Cross(_, _) => 0,
-        }
-    }
-}
-
-// All pairs of the run, in batches.
-fn fill_batches(look: &Lookups, sets: &Pairing, room: &mut Room, scratch: &mut [f64])
-    ensures { scratch.new ≡ run_filled look.now.run sets.now scratch.old }
-{
-    let first = sets.first_set();
-    let second = sets.second_set();
-    for i in 0..first.n {
-        let a = first.point_at(i);
-        let start = sets.first_partner(i);
-        add_batches(look, a, second, start, &mut *room, &mut *scratch);
     }
 }
 
@@ -376,96 +375,101 @@ fn hint_span(n: usize) -> f64 {
     if n < 160 { 510.0 } else { 4093.0 }
 }
 
-// ---- few second points: no hints, no room
-
-// The pair of a and b; dropped where its distance has no bin.
-fn pair_found(run: &Run, table: Table, a: Point, b: Point) -> Pair
-    requires { Tabled run.now.setup.edges run.now.list.now table }
-    ensures { the_pair result ≡ built_pair run.now.setup run.now.list.now (the_point a) (the_point b) }
+// The edges' table; its hints are filled.
+fn fill_table<'a>(edges: BuiltEdges<'a>, span: f64, hints: &mut [u8; 4096]) -> EdgeTable<'a>
+    requires { Usable edges }
+    ensures { result.edges ≡ edges.entry }
 {
-    let distance = unstructured_points::squared_diff_norm(a, b);
-    match edge_table::bin_of(run.setup.edges, run.list, table, distance) {
-        Some(bin) => {
-            let datum = reducer::datum_of(run.setup.op, a.rd, b.rd);
-            Pair::Kept(bin, datum.c0, datum.c1, datum.c2, datum.weight)
-        }
-        None => Pair::Dropped,
-    }
+    let table = edge_table::table_of(edges, span);
+    edge_table::fill_hints(edges, table, hints);
+    EdgeTable { edges, table }
 }
 
-// The value of a histogram's pair is looked up here.
-fn consume_pair(run: &Run, pair: Pair, scratch: &mut [f64])
-    ensures { scratch.new ≡ pair_added run.now.setup run.now.value_edges.now (the_pair pair) scratch.old }
+// Of value edges, which a mean has not.
+fn fill_values<'a>(
+    reducer: BuiltReducer<'a>,
+    span: f64,
+    hints: &mut [u8; 4096],
+) -> Option<EdgeTable<'a>>
+    requires { UsableValues reducer }
+    ensures { option_map (λ t. t.edges) result ≡ value_edges reducer.entry }
 {
-    match pair {
-        Pair::Kept(bin, c0, c1, c2, weight) => {
-            let kind = run.setup.reducer;
-            let d = Datum { c0, c1, c2, weight };
-            reducer::consume(kind, run.value_edges, run.setup.n_states, bin, d, scratch)
-        }
-        Pair::Dropped => {}
-    }
-}
-
-// The pairs of a with the points from `from` on.
-fn add_row(run: &Run, table: Table, a: Point, set: &Points, from: usize, scratch: &mut [f64])
-    requires { Tabled run.now.setup.edges run.now.list.now table }
-    ensures { scratch.new ≡ run_row run.now (the_point a) set.now from (set.now.n - from) scratch.old }
-{
-    for j in from..set.n {
-        let b = set.point_at(j);
-        let pair = pair_found(run, table, a, b);
-        consume_pair(run, pair, &mut *scratch);
-    }
-}
-
-// All pairs of the run, one after the other.
-fn fill_few(run: &Run, sets: &Pairing, scratch: &mut [f64])
-    ensures { scratch.new ≡ run_filled run.now sets.now scratch.old }
-{
-    let table = edge_table::table_of(run.setup.edges, run.list, 0.0);
-    let first = sets.first_set();
-    let second = sets.second_set();
-    for i in 0..first.n {
-        let a = first.point_at(i);
-        let start = sets.first_partner(i);
-        add_row(run, table, a, second, start, &mut *scratch);
+    match reducer {
+        Reducer::ComponentSumHistogram(edges) => Some(fill_table(edges, span, hints)),
+        _ => None,
     }
 }
 
 // Many second points: the tables, the hints and the room, then all pairs.
-fn fill_many(run: &Run, sets: &Pairing, scratch: &mut [f64])
-    ensures { scratch.new ≡ run_filled run.now sets.now scratch.old }
+fn fill_many(setup: &Setup, sets: &Sets<Points>, scratch: &mut [f64])
+    ensures { scratch.new ≡ run_filled setup.now sets.now scratch.old }
 {
-    let built = run.setup.edges;
-    let kind = run.setup.reducer;
-    let span = hint_span(sets.second_set().n);
-    let edges = edge_table::table_of(built, run.list, span);
-    let values = edge_table::value_table_of(kind, run.value_edges, span);
+    let span = hint_span(sets.second().n);
     let mut hints = [0u8; 4096];
-    edge_table::fill_hints(built, run.list, edges, &mut hints);
+    let edges = fill_table(setup.edges, span, &mut hints);
     let mut value_hints = [0u8; 4096];
-    edge_table::fill_value_hints(kind, run.value_edges, values, &mut value_hints);
+    let values = fill_values(setup.reducer, span, &mut value_hints);
     let look = Lookups {
-        run: *run,
-        tables: Tables { edges, values },
+        setup: *setup,
+        edges,
         hints: &hints,
+        values,
         value_hints: &value_hints,
     };
-    let mut room = Room {
-        d: [0.0; 256],
-        places: [0; 256],
-        found: [0; 256],
-        value_found: [0; 256],
+    let mut batches = Batches {
+        look: &look,
+        room: Room {
+            d: [0.0; 256],
+            places: [0; 256],
+            bins: [0; 256],
+            values: [0; 256],
+        },
     };
-    fill_batches(&look, sets, &mut room, scratch);
+    fill_rows(&mut batches, sets, scratch);
 }
 
-// Few second points: hints would not pay, which take longer to make for more bins.
+// ---- few second points: no hints, no room
+
+impl Searched<'_> {
+    // The pair of a and b; dropped where its distance has no bin.
+    #[tactic(auto, using(crate::proofs::Batches::pair_at_law))]
+    fn pair_found(&self, a: Point, b: Point) -> Pair
+        ensures { the_pair result ≡ built_pair self.now.setup.now (the_point a) (the_point b) }
+    {
+        let distance = unstructured_points::squared_diff_norm(a, b);
+        let bin = edge_table::bin_of(self.setup.edges, self.ends, distance);
+        Pair::new(self.setup.op, a.rd, b.rd, bin)
+    }
+}
+
+impl Rows for Searched<'_> {
+    ghost setup = { λ rows. rows.setup.now };
+
+    fn add_row(&mut self, a: Point, set: &Points, from: usize, scratch: &mut [f64]) {
+        for j in from..set.n {
+            let b = set.point_at(j);
+            let pair = self.pair_found(a, b);
+            consume_pair(self.setup, pair, &mut *scratch);
+        }
+    }
+}
+
+// Few second points: the ends of the edges, then all pairs.
+fn fill_few(setup: &Setup, sets: &Sets<Points>, scratch: &mut [f64])
+    ensures { scratch.new ≡ run_filled setup.now sets.now scratch.old }
+{
+    let mut searched = Searched {
+        setup,
+        ends: edge_table::ends_of(setup.edges),
+    };
+    fill_rows(&mut searched, sets, scratch);
+}
+
+// Few second points: hints would not pay. To make them takes 0.2 µs for 32 bins and 1.1 µs for 256, as long as some 30 and 95 lookups by the search.
 fn few_points(edges: BuiltEdges, n_states: usize, n: usize) -> bool {
     match edges {
-        BuiltEdges::Regular(_) => n < 20,
-        BuiltEdges::Irregular => {
+        BinEdges::Regular(_) => n < 20,
+        BinEdges::Irregular(_) => {
             if n_states < 65 {
                 return n < 10;
             }
@@ -474,46 +478,48 @@ fn few_points(edges: BuiltEdges, n_states: usize, n: usize) -> bool {
     }
 }
 
-// All pairs of the run, first point ascending, second ascending within it, into scratch.
-fn fill(run: &Run, sets: &Pairing, scratch: &mut [f64])
-    ensures { scratch.new ≡ run_filled run.now sets.now scratch.old }
+// All pairs of the run into scratch.
+fn fill(setup: &Setup, sets: &Sets<Points>, scratch: &mut [f64])
+    ensures { scratch.new ≡ run_filled setup.now sets.now scratch.old }
 {
-    if few_points(run.setup.edges, run.setup.n_states, sets.second_set().n) {
-        fill_few(run, sets, scratch)
+    if few_points(setup.edges, setup.n_states, sets.second().n) {
+        fill_few(setup, sets, scratch)
     } else {
-        fill_many(run, sets, scratch)
+        fill_many(setup, sets, scratch)
     }
 }
 
 // ---- runs
 
 // The run, in a scratch of N numbers, of which it takes `used`; they are then added to the caller's pack.
-fn run_in<const N: usize>(run: &Run, sets: &Pairing, used: usize, pack: &mut [f64])
+fn run_in<const N: usize>(setup: &Setup, sets: &Sets<Points>, used: usize, pack: &mut [f64])
     requires used_bound { used ≤ N }
     requires n_bound { N ≤ 4096 }
-    ensures { pack.new ≡ added_scratch pack.old (run_filled run.now sets.now (take used zero_pack)) }
+    ensures { pack.new ≡ added_scratch pack.old (run_filled setup.now sets.now (take used zero_pack)) }
 {
     let mut zeros = floats::zeros::<N>();
     let scratch = &mut zeros[..used];
-    fill(run, sets, &mut *scratch);
+    fill(setup, sets, &mut *scratch);
     parallel_serial::add_scratch(scratch, pack);
 }
 
-// The run, its scratch as large as it must be.
-fn run_sized(run: &Run, sets: &Pairing, used: usize, pack: &mut [f64])
-    requires { used ≤ 4096 }
-    ensures { pack.new ≡ added_scratch pack.old (run_filled run.now sets.now (take used zero_pack)) }
+// An accepted run, its scratch as large as it must be. `drive`, `run` and the scratch have their like in twopoint_cartesian, over other types:
+// a trait for both, with its law, would be longer than they are.
+fn drive(setup: &Setup, sets: &Sets<Points>, pack: &mut [f64])
+    ensures { pack.new ≡ added_scratch pack.old (run_filled setup.now sets.now (take (setup.now.n_states * reducer_size setup.now.reducer) zero_pack)) }
 {
+    let used = setup.n_states * setup.reducer.state_size();
     if used <= 64 {
-        run_in::<64>(run, sets, used, pack)
+        run_in::<64>(setup, sets, used, pack)
     } else if used <= 512 {
-        run_in::<512>(run, sets, used, pack)
+        run_in::<512>(setup, sets, used, pack)
     } else {
-        run_in::<4096>(run, sets, used, pack)
+        run_in::<4096>(setup, sets, used, pack)
     }
 }
 
 // An accepted set.
+#[tactic(auto, using(crate::proofs::Runs::held_points), unfolding(crate::specs::Pairs::points_in, crate::specs::Pairs::point_in))]
 fn held_set<'a>(set: PointSet<'a>) -> Points<'a>
     requires { Held (points_of set) }
     ensures { points_in result ≡ points (points_of set.entry) }
@@ -529,119 +535,43 @@ fn held_set<'a>(set: PointSet<'a>) -> Points<'a>
 }
 
 // Accepted sets.
-fn held_sets<'a>(sets: Sets<'a>) -> Pairing<'a>
+fn held_sets<'a>(sets: Sets<PointSet<'a>>) -> Sets<Points<'a>>
     requires { HeldSets sets }
     ensures { pairs_in result ≡ sets_pairs sets.entry }
 {
     match sets {
-        Sets::Auto(a) => Pairing::Auto(held_set(a)),
-        Sets::Cross(a, b) => Pairing::Cross(held_set(a), held_set(b)),
+        Sets::Auto(a) => Sets::Auto(held_set(a)),
+        Sets::Cross(a, b) => Sets::Cross(held_set(a), held_set(b)),
     }
 }
 
-// An accepted run.
-fn drive(
-    sets: Sets,
-    edges: Edges,
-    list: &[f64],
-    kind: Kind,
-    value_edges: &[f64],
-    op: PairOperation,
-    shape: Shape,
-    pack: &mut [f64],
-)
-    requires held { HeldSets sets }
-    requires drivable { Drivable (edges_of edges list.now) (kind_of kind value_edges.now) shape (length pack.old) }
-    ensures { pack.new ≡ merged (sets_run (sets_of sets.entry) edges list.now kind value_edges.now op shape) pack.old }
+fn run(sets: Sets<PointSet>, spec: RunSpec, pack: &mut [f64]) -> Result<(), Refusal>
+    ensures number { number_of result ≡ refusal (run_rules (run_of (sets_of sets.entry) spec.entry) (length pack.old)) }
+    ensures pack_after { pack.new ≡ step (run_of (sets_of sets.entry) spec.entry) pack.old }
 {
-    let setup = Setup {
-        op,
-        edges: parallel_serial::build_edges(edges),
-        reducer: parallel_serial::build_reducer(kind),
-        n_states: shape.n_states,
-    };
-    let run = Run {
-        setup,
-        list,
-        value_edges,
-    };
-    let pairing = held_sets(sets);
-    run_sized(&run, &pairing, shape.n_states * shape.state_size, pack);
-}
-
-fn run(
-    sets: Sets,
-    edges: Edges,
-    list: &[f64],
-    kind: Kind,
-    value_edges: &[f64],
-    op: PairOperation,
-    shape: Shape,
-    pack: &mut [f64],
-) -> Result<(), Refusal>
-    ensures number { number_of result ≡ refusal (run_rules (sets_run (sets_of sets.entry)
-        edges list.now kind value_edges.now op shape) (length pack.old)) }
-    ensures pack_after { pack.new ≡ step (sets_run (sets_of sets.entry)
-        edges list.now kind value_edges.now op shape) pack.old }
-{
-    unstructured_points::run_refusal(sets, edges, list, kind, value_edges, shape, pack.len())?;
-    drive(sets, edges, list, kind, value_edges, op, shape, pack);
+    let setup = unstructured_points::run_setup(sets, spec, pack.len())?;
+    let held = held_sets(sets);
+    drive(&setup, &held, pack);
     Ok(())
 }
 
 // Each pair of a point with a later one.
-pub fn points_auto(
-    set: PointSet,
-    edges: Edges,
-    list: &[f64],
-    kind: Kind,
-    value_edges: &[f64],
-    op: PairOperation,
-    shape: Shape,
-    pack: &mut [f64],
-) -> Result<(), Refusal>
-    ensures number { number_of result ≡ refusal (run_rules (auto_run (points_of set.entry)
-        edges list.now kind value_edges.now op shape) (length pack.old)) }
-    ensures pack_after { pack.new ≡ step (auto_run (points_of set.entry)
-        edges list.now kind value_edges.now op shape) pack.old }
+pub fn points_auto(set: PointSet, spec: RunSpec, pack: &mut [f64]) -> Result<(), Refusal>
+    ensures number { number_of result ≡ refusal (run_rules (auto_run (points_of set.entry) spec.entry) (length pack.old)) }
+    ensures pack_after { pack.new ≡ step (auto_run (points_of set.entry) spec.entry) pack.old }
 {
-    run(
-        Sets::Auto(set),
-        edges,
-        list,
-        kind,
-        value_edges,
-        op,
-        shape,
-        pack,
-    )
+    run(Sets::Auto(set), spec, pack)
 }
 
 // Each point of a with each point of b.
 pub fn points_cross(
     a: PointSet,
     b: PointSet,
-    edges: Edges,
-    list: &[f64],
-    kind: Kind,
-    value_edges: &[f64],
-    op: PairOperation,
-    shape: Shape,
+    spec: RunSpec,
     pack: &mut [f64],
 ) -> Result<(), Refusal>
-    ensures number { number_of result ≡ refusal (run_rules (cross_run (points_of a.entry) (points_of b.entry)
-        edges list.now kind value_edges.now op shape) (length pack.old)) }
-    ensures pack_after { pack.new ≡ step (cross_run (points_of a.entry) (points_of b.entry)
-        edges list.now kind value_edges.now op shape) pack.old }
+    ensures number { number_of result ≡ refusal (run_rules (cross_run (points_of a.entry) (points_of b.entry) spec.entry) (length pack.old)) }
+    ensures pack_after { pack.new ≡ step (cross_run (points_of a.entry) (points_of b.entry) spec.entry) pack.old }
 {
-    run(
-        Sets::Cross(a, b),
-        edges,
-        list,
-        kind,
-        value_edges,
-        op,
-        shape,
-        pack,
-    )
+    run(Sets::Cross(a, b), spec, pack)
 }

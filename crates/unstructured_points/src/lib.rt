@@ -2,16 +2,17 @@
 #![tactic(auto)]
 
 ghost use Rattle.std.specs.Prelude.{◌≡◌};
+ghost use Rattle.std.specs.Result.{IfOk};
 ghost use Rattle.definitions.specs.Points.{stride_or, squared_diff_norm};
-ghost use Rattle.definitions.specs.Rules.{refusal, over_points, point_rules, over_sets, set_rules};
+ghost use Rattle.definitions.specs.Rules.{refusal, over_points, point_rules, over_sets, set_rules, run_rules};
 ghost use Rattle.refusals.specs.Numbers.{number_of};
-ghost use Rattle.reducer.specs.Readings.{edges_of, kind_of};
-ghost use Rattle.parallel_serial.specs.Drive.{sets_number};
+ghost use Rattle.parallel_serial.specs.Drive.{run_of};
+ghost use Rattle.parallel_serial.specs.Setups.{SetupOf};
 ghost use Rattle.unstructured_points.specs.Readings.{points_of, the_point};
 ghost use Rattle.unstructured_points.specs.Sets.{sets_of};
 
-use parallel_serial::Shape;
-use reducer::{Datum, Edges, Kind};
+use parallel_serial::{RunSpec, Sets, Setup};
+use reducer::Datum;
 use refusals::Refusal;
 
 // The stride of positions and values may be left out: it is then the number of points.
@@ -22,13 +23,6 @@ pub struct PointSet<'a> {
     pub weights: &'a [f64],
     pub n_points: usize,
     pub stride: Option<usize>,
-}
-
-// The sets of a run: in auto each point is paired with the later ones of its set.
-#[derive(Clone, Copy)]
-pub enum Sets<'a> {
-    Auto(PointSet<'a>),
-    Cross(PointSet<'a>, PointSet<'a>),
 }
 
 #[derive(Clone, Copy)]
@@ -84,55 +78,44 @@ impl PointSet<'_> {
 }
 
 // ---- of a run's sets, a before b
+// Matches of two arms, as in spatial: a method of Sets that takes a closure, for each of the two, is longer than what it replaces.
 
-impl Sets<'_> {
-    fn sets_over(self) -> bool
-        ensures { result ≡ over_sets (sets_of self.entry) }
-    {
-        match self {
-            Sets::Auto(a) => a.points_over(),
-            Sets::Cross(a, b) => a.points_over() || b.points_over(),
-        }
+fn sets_over(sets: Sets<PointSet>) -> bool
+    ensures { result ≡ over_sets (sets_of sets.entry) }
+{
+    match sets {
+        Sets::Auto(a) => a.points_over(),
+        Sets::Cross(a, b) => a.points_over() || b.points_over(),
     }
+}
 
-    fn sets_refusal(self) -> Result<(), Refusal>
-        ensures { number_of result ≡ refusal (set_rules (sets_of self.entry)) }
-    {
-        match self {
-            Sets::Auto(a) => a.points_refusal(),
-            Sets::Cross(a, b) => {
-                a.points_refusal()?;
-                b.points_refusal()
-            }
+fn sets_refusal(sets: Sets<PointSet>) -> Result<(), Refusal>
+    ensures { number_of result ≡ refusal (set_rules (sets_of sets.entry)) }
+{
+    match sets {
+        Sets::Auto(a) => a.points_refusal(),
+        Sets::Cross(a, b) => {
+            a.points_refusal()?;
+            b.points_refusal()
         }
     }
 }
 
-// The first broken rule of a run.
-pub fn run_refusal(
-    sets: Sets,
-    edges: Edges,
-    list: &[f64],
-    kind: Kind,
-    value_edges: &[f64],
-    shape: Shape,
+// The first broken rule of a run, or what is built of its edges and kind.
+#[tactic(auto, using(parallel_serial::proofs::Refusals::run_limit, parallel_serial::proofs::Refusals::run_within, crate::proofs::Rules::no_pairs))]
+pub fn run_setup<'a>(
+    sets: Sets<PointSet>,
+    spec: RunSpec<'a>,
     len: usize,
-) -> Result<(), Refusal>
-    ensures { number_of result ≡ sets_number (sets_of sets.entry) (edges_of edges list.now) (kind_of kind value_edges.now) shape len }
+) -> Result<Setup<'a>, Refusal>
+    ensures number { number_of result ≡ refusal (run_rules (run_of (sets_of sets.entry) spec.entry) len) }
+    ensures built { IfOk result (λ s. SetupOf spec.entry s) }
 {
-    let over = sets.sets_over();
-    let own = sets.sets_refusal();
-    run_refusals::run_refusal(
-        over,
-        own,
-        Ok(()),
-        edges,
-        list,
-        kind,
-        value_edges,
-        shape,
-        len,
-    )
+    if sets_over(sets) {
+        return Err(Refusal::OverLimit);
+    }
+    let own = sets_refusal(sets);
+    run_refusals::run_setup(own, Ok(()), spec, len)
 }
 
 // ---- two points

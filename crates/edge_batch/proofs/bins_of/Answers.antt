@@ -1,11 +1,5 @@
-use Rattle.edge_batch.proofs.Batch.{found_unlike, found_settled, found_sure}
+use Rattle.edge_batch.proofs.Batch.{found_sure}
 use Rattle.edge_batch.proofs.bins_of.Goals as goal
 
-pub returns-then-found-x : goal.returns-then-found-x
-returns-then-found-x c = search found_unlike
-
-pub returns-then-all-ge8192 : goal.returns-then-all-ge8192
-returns-then-all-ge8192 c = search found_settled
-
-pub returns-else-all-ge8192 : goal.returns-else-all-ge8192
-returns-else-all-ge8192 c = search found_sure
+pub returns-else-all-ge-SETTLED_LIMIT : goal.returns-else-all-ge-SETTLED_LIMIT
+returns-else-all-ge-SETTLED_LIMIT g c = search found_sure

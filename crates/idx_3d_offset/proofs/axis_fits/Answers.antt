@@ -1,8 +1,6 @@
-use borrow.Author.Tests.{eq-eqb, ne_eqb}
+use Rattle.std.proofs.Common.{◌∙◌, arith}
+use Rattle.std.proofs.lemmas.Bool.Decides.{nat_tests}
 use Rattle.idx_3d_offset.proofs.axis_fits.Goals as goal
 
-pub returns-then-n-eq0 : goal.returns-then-n-eq0
-returns-then-n-eq0 c = search (eq-eqb, ne_eqb)
-
 pub returns : goal.returns
-returns c = search (eq-eqb, ne_eqb)
+returns c = let e = c.new.ensures in let h = rw (e.start, e.end, e.exhausted) at c.contains.ensures.value in h ∙ grind (arith, nat_tests)

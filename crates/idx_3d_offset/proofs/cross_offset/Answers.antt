@@ -2,7 +2,7 @@ use Prim.Native.Nat.{◌≤◌}
 use lib.IntN.{nat_abs}
 use mathlib.Core.Path.{ap}
 use native.Mathlib.Omega.{arith}
-use Rattle.idx_3d_offset.proofs.Sequence.{cross_fits_a, cross_fits_b, cross_small, cross_found, past_end_law}
+use Rattle.idx_3d_offset.proofs.Sequence.{cross_fits_a, cross_fits_b, cross_small, cross_found}
 use Rattle.idx_3d_offset.proofs.Signed.{num, natural, own}
 use Rattle.idx_3d_offset.proofs.cross_offset.Goals as goal
 
@@ -21,6 +21,3 @@ offset_at-requires-clause-i_natural c = own _ _ (natural num tt c.args.i (search
 
 pub returns-then-i-cross_len : goal.returns-then-i-cross_len
 returns-then-i-cross_len c = cross_found _ _ _ _ c.cross_len.ensures c.if-i-cross_len.true _ _ c.offset_at.ensures (ap nat_abs (natural num tt c.args.i (search cross_small)).is)
-
-pub returns : goal.returns
-returns c = search past_end_law

@@ -1,11 +1,8 @@
-use Rattle.reducer.proofs.Ways.{bin_kept, bin_past, bin_none}
+use Rattle.reducer.proofs.Ways.{bin_none, bin_some}
 use Rattle.reducer.proofs.bin_of.Goals as goal
 
-pub returns-then-i-n : goal.returns-then-i-n
-returns-then-i-n c = search bin_kept
+pub returns-in_err-i : goal.returns-in_err-i
+returns-in_err-i c = search (bin_none, c.in_err-i.was)
 
-pub returns-else-i-n : goal.returns-else-i-n
-returns-else-i-n c = search bin_past
-
-pub returns-in-None : goal.returns-in-None
-returns-in-None c = search bin_none
+pub returns : goal.returns
+returns c = search (bin_some, c.in_ok-i.was)

@@ -1,4 +1,4 @@
-use borrow.Author.Tests.{lt-ltb, le-ltb, le-leb, lt-leb}
+use borrow.Author.Tests.{le-ltb, le-leb, lt-leb}
 use Rattle.reducer.specs.Consume.{has_room}
 use Rattle.reducer.proofs.Ways.{product_fits}
 use Rattle.reducer.proofs.has_room.Goals as goal
@@ -20,4 +20,4 @@ overflow_mul-result c = search product_fits
 
 pub returns : goal.returns
 unfolding has_room
-returns c = search (le-leb, lt-ltb)
+returns c = search le-leb

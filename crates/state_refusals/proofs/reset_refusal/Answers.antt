@@ -1,5 +1,5 @@
-use Rattle.state_refusals.proofs.Refusals.{shape_with}
+use Rattle.state_refusals.proofs.Refusals.{refused}
 use Rattle.state_refusals.proofs.reset_refusal.Goals as goal
 
-pub returns : goal.returns
-returns c = search shape_with
+pub returns-in_err-n : goal.returns-in_err-n
+returns-in_err-n c = search (refused, c.in_err-n.was)

@@ -1,21 +1,19 @@
-use Rattle.parallel_serial.proofs.Refusals.{run_answers}
-use Rattle.twopoint_cartesian.proofs.Runs.{drivable, all_ready}
+use Rattle.parallel_serial.proofs.Refusals.{run_answers, accepted_step}
+use Rattle.twopoint_cartesian.proofs.Runs.{all_ready, driven}
 use Rattle.twopoint_cartesian.proofs.run.Goals as goal
 
-pub drive-requires-clause-ready : goal.drive-requires-clause-ready
-drive-requires-clause-ready c = search (all_ready, c.in_ok-run_refusal.was)
+pub overlaps-requires : goal.overlaps-requires
+overlaps-requires c = search (all_ready, c.in_ok-setup.was)
 
-pub drive-requires-clause-drivable : goal.drive-requires-clause-drivable
-drive-requires-clause-drivable c = search (drivable, c.in_ok-run_refusal.was)
+pub returns-in_err-setup-clause-number : goal.returns-in_err-setup-clause-number
+returns-in_err-setup-clause-number c = search (run_answers, c.in_err-setup.was)
 
-pub returns-in_err-run_refusal-clause-number : goal.returns-in_err-run_refusal-clause-number
-returns-in_err-run_refusal-clause-number c = search (run_answers, c.in_err-run_refusal.was)
-
-pub returns-in_err-run_refusal-clause-pack_after : goal.returns-in_err-run_refusal-clause-pack_after
-returns-in_err-run_refusal-clause-pack_after c = search (run_answers, c.in_err-run_refusal.was)
+pub returns-in_err-setup-clause-pack_after : goal.returns-in_err-setup-clause-pack_after
+returns-in_err-setup-clause-pack_after c = search (run_answers, c.in_err-setup.was)
 
 pub returns-clause-number : goal.returns-clause-number
-returns-clause-number c = search (run_answers, c.in_ok-run_refusal.was)
+returns-clause-number c = search (run_answers, c.in_ok-setup.was)
 
 pub returns-clause-pack_after : goal.returns-clause-pack_after
-returns-clause-pack_after c = search (run_answers, c.in_ok-run_refusal.was)
+returns-clause-pack_after c =
+    accepted_step _ _ _ c.run_setup.ensures.number _ c.in_ok-setup.was _ (driven _ _ _ _ _ c.run_setup.ensures.number _ c.in_ok-setup.was c.in_ok-setup.ensures.built _ c.overlaps.ensures _ c.drive.ensures)

@@ -4,4 +4,4 @@ use Rattle.unstructured.proofs.add_found.Goals as goal
 
 pub returns-in-ComponentSumHistogram : goal.returns-in-ComponentSumHistogram
 returns-in-ComponentSumHistogram c = let x = c.args in
-    by_weights x.setup _ c.in-ComponentSumHistogram.is _ (reading_of x.first) x.found.now.readings _ _ _ _ _ c.add_weights.ensures
+    by_weights x.setup.now _ c.in-ComponentSumHistogram.is (reading_of x.first) x.found.now.readings _ _ _ _ _ c.add_weights.ensures

@@ -1,20 +1,16 @@
-use mathlib.Core.Path.{◌≡◌, refl}
+use mathlib.Core.Path.{◌≡◌}
 use native.Mathlib.Omega.{arith}
 use lib.ListN.{length}
 use Rattle.reducer.specs.Readings.{reading_of}
-use Rattle.unstructured.specs.Batches.{reading_in, placed_to}
+use Rattle.unstructured.specs.Batches.{reading_in}
 use Rattle.unstructured.proofs.Batches.{placed_next}
 use Rattle.unstructured.proofs.add_pairs.Goals as goal
-
-pub loop-q-init : goal.loop-q-init
-unfolding placed_to
-loop-q-init c = refl
 
 pub loop-q-preserved : goal.loop-q-preserved
 loop-q-preserved c = let x = c.args in
     let f = x.found.now in
     let t = c.loop-q in
-    placed_next x.setup x.value_len (reading_of x.first) (reading_in f.readings) f.readings.places.now f.bins.now f.values.now t.q _ c.pair_of-pair.result x.scratch.now t.scratch _ t.invariant
+    placed_next x.setup.now (reading_of x.first) (reading_in f.readings) f.readings.places.now f.bins.now f.values.now t.q _ c.pair_of-pair.result x.scratch.now t.scratch _ t.invariant
     c.reading_at-second.ensures c.pair_of-pair.ensures c.add_pair.ensures
 
 pub returns : goal.returns

@@ -1,14 +1,15 @@
-use mathlib.Core.Path.{sym, ◌∙◌}
+use mathlib.Core.Path.{◌∙◌, ap}
+use mathlib.Core.Bool.{false}
+use mathlib.Core.List.{map}
+use Rattle.edge_batch.specs.Batch.{number_in}
 use Rattle.reducer.specs.Readings.{reading_of}
 use Rattle.unstructured.specs.Batches.{reading_in}
-use Rattle.unstructured.proofs.Batches.{places_added_law}
-use borrow.Author.Rules.{rules}
+use Rattle.unstructured.proofs.Batches.{places_added_law, some_numbers, no_numbers}
+use Rattle.unstructured.proofs.add_places.Goals.{in-Some, in_default}
 use Rattle.unstructured.proofs.add_places.Goals as goal
 
 pub returns : goal.returns
 returns c = let x = c.args in
     let look = x.look.now in
     let r = x.readings.now in
-    let l = c.requires in
-    places_added_law look.run.setup look.run.list.now look.run.value_edges.now look.hints.now look.tables.edges (reading_of x.first) (reading_in r) r.places.now x.d.now x.found.now x.value_found.now _ _ x.scratch.now _ look.tabled.edges
-    (search rules) (l.1 ∙ sym l.0) c.bins_of.ensures c.value_bins.ensures c.add_found.ensures
+    places_added_law look.setup look.edges.edges _ (reading_of x.first) (reading_in r) r.places.now x.d.now c.bins_of.new.found x.values.now c.match-look.values x.scratch.now _ look.edges_are look.values_are c.bins_of.ensures (elim c.match-look.branch [ in-Some w ↦ some_numbers _ _ _ _ w.in-Some.edges w.in-Some.is (w.values-is ∙ w.bins_of-in-Some.ensures ∙ ap (map (number_in false w.in-Some.edges.edges)) w.pair_values.ensures) | in_default w ↦ no_numbers _ _ _ _ w.in_default.is w.values-is ]) c.add_found.ensures

@@ -1,6 +1,0 @@
-use mathlib.Core.Path.{◌≡◌}
-use Rattle.definitions.specs.State.{merge_packs}
-use Rattle.state.proofs.add_first.Given as goal
-
-abbrev pub invariant-loop-i : goal.invariant-loop-i
-invariant-loop-i l = (l.pack ≡ merge_packs l.i l.initial.pack l.other)
