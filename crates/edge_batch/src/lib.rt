@@ -58,7 +58,7 @@ fn guess_of(q: f64) -> usize
     ((std::num::f64_to_bits_with_nan(q + 2147483648.0) / 2097152) % 4096) as usize
 }
 
-// Past an end, unless it is known that no value is.
+// Past an end, unless it is known that no value is. As Ends::is_past of edge_table, over other fields: each is a line over bins::is_past.
 #[tactic(auto, unfolding(crate::specs::Batch::is_past))]
 fn is_past<const INSIDE: bool>(e: RegularBinEdges, x: f64) -> bool
     ensures { result ≡ is_past INSIDE e x }
