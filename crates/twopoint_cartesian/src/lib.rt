@@ -334,8 +334,7 @@ impl<'a> Overlap<'a> {
         }
     }
 
-    // The mean of its pairs. Inlined into the walk over the offsets, its loops would run short of registers.
-    #[inline(never)]
+    // The mean of its pairs.
     fn mean(self, setup: Setup) -> Mean
         ensures { result ≡ offset_mean setup.entry (block_of self.entry.a) (block_of self.entry.b) (idx_of self.entry.o) }
     {
