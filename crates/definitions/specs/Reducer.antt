@@ -14,9 +14,13 @@ pub data StateKind : Type 0 where
   mean : StateKind
   histogram : ℕ → StateKind
 
--- a mean's state is total and weight; a histogram's is one number per value bin
+-- a mean's state is total and weight
+abbrev pub mean_size : ℕ
+mean_size = 2
+
+-- a histogram's is one number per value bin
 abbrev pub state_size : StateKind → ℕ
-state_size mean = 2
+state_size mean = mean_size
 state_size (histogram n) = n
 
 -- the means over TakeComp0 and ComponentSum, and the ComponentSum histogram with its value edges

@@ -23,9 +23,9 @@ use Rattle.edge_table.specs.declared.Ends.{Ends}
 use Rattle.edge_table.specs.declared.Table.{Table}
 use Rattle.edge_table.specs.Table.{hint_place, place_of, near_hint, bit, past_end, enclosed, nonzero, located_bin, irregular_bin, sure_at}
 use Rattle.edge_table.specs.Tabled.{Tabled}
-use Rattle.edge_table.proofs.Lookup.{outside, bin_past, enclosed_bin, located_found}
-use Rattle.edge_batch.specs.declared.Lookup.{Lookup}
-use Rattle.edge_batch.specs.Batch.{number_or, quotient, is_past, number_for, sure_number, AtMost, each, sure_in, sure, settled, settled_or, batch_number, found_of, number_in}
+use Rattle.edge_table.proofs.Lookups.{outside, bin_past, enclosed_bin, located_found}
+use Rattle.edge_table.specs.declared.Lookup.{Lookup}
+use Rattle.edge_batch.specs.Batch.{number_or, quotient, is_past, number_for, sure_number, AtMost, each, sure_in, sure, settled, settled_or, batch_number, number_in, numbers_of}
 use Rattle.edge_batch.proofs.Loops.{each_after, each_value}
 use Rattle.edge_batch.proofs.Cuts.{sure_within}
 
@@ -41,33 +41,6 @@ sure_irregular inside look list x before places l t p q =
 settled_kept : (inside : Bool) (look : Lookup) (x : Float) (n : ℕ) → n < 8192 → n ≡ settled_or inside look x n
 unfolding settled_or
 settled_kept inside look x n h = rw (lt-ltb n 8192 h)
-
--- ---- a batch
-module _ (inside : Bool) (look : Lookup) (x : List Float) (found : List ℕ) (h : length found ≡ length x) where
-  found_map : found_of inside look x found ≡ map (batch_number inside look) x
-  unfolding found_of
-  found_map = rw (eq-eqb (length found) (length x) h)
-
-  -- first is what the first loop left
-  module _ (first : List ℕ) (s : first ≡ each (λ v n. sure inside look v) x found) where
-    pub found_settled : (l : List ℕ) → l ≡ each (settled_or inside look) x first → l ≡ found_of inside look x found
-    found_settled l p =
-        let f = settled_or inside look in
-        p ∙ ap (each f x) s ∙ each_after f (sure inside look) x found ∙ each_value (batch_number inside look) x found h ∙ sym found_map
-
-    first_is : first ≡ map (sure inside look) x
-    first_is = s ∙ each_value (sure inside look) x found h
-
-    all_kept : (y : List Float) → ((i : ℕ) → i < length y → get_or (map (sure inside look) y) i 0 < 8192) → map (sure inside look) y ≡ map (batch_number inside look) y
-    all_kept [] k = refl
-    all_kept (v ∷ y) k = λ i. settled_kept inside look v (sure inside look v) (k 0 (omega arith)) i ∷ all_kept y (λ j l. k (suc j) (omega arith)) i
-
-    -- nothing is marked
-    pub found_sure : (m : ℕ) → AtMost m (length x) first → m < 8192 → first ≡ found_of inside look x found
-    found_sure m a k =
-        first_is ∙ all_kept x (λ i w.
-        let n : i < length first = omega (arith, w, ap length first_is, length-map x (sure inside look)) in
-        subst (λ (y : List ℕ). get_or y i 0 < 8192) first_is (omega (arith, a i w n, k))) ∙ sym found_map
 
 -- ---- the edges' own bins
 module _ (list : Bor (List Float)) (hints : List ℕ) (table : Table) (x : Float) where
@@ -153,13 +126,39 @@ module _ (inside : Bool) (look : Lookup) (t : Tabled look.edges look.table.ends)
       go (Regular e) u = pick (sure_number inside e x) _ _ _ refl (sure_within inside e x) refl
       go (Irregular l) u = pick (sure_at l.now look.hints.now x (place_of inside look.table x)) _ _ _ refl (sure_found l look.hints.now look.table x u f inside) (settled_found l look.hints.now look.table x u f inside)
 
-  batch_map : (x : List Float) → ((i : ℕ) → T (fits binary64 (at x i))) → map (batch_number inside look) x ≡ map (number_in inside look.edges) x
-  batch_map [] f = refl
-  batch_map (v ∷ x) f = λ i. batch_number_law v (is_true (fits binary64 v) (f 0)) i ∷ batch_map x (λ j. f (suc j)) i
+-- ---- a batch
+pub numbers_map : (inside : Bool) (edges : BuiltEdges) (x : List Float) (found : List ℕ) → length found ≡ length x → numbers_of inside edges x found ≡ map (number_in inside edges) x
+unfolding numbers_of
+numbers_map inside edges x found h = rw (eq-eqb (length found) (length x) h)
 
-  -- a table of usable edges finds the edges' own numbers
-  pub found_bins : (x : List Float) (found : List ℕ) → ((i : ℕ) → T (fits binary64 (at x i))) → length found ≡ length x → found_of inside look x found ≡ map (number_in inside look.edges) x
-  found_bins x found f h = found_map inside look x found h ∙ batch_map x f
+-- first is what the first loop left
+module _ (inside : Bool) (look : Lookup) (x : List Float) (found first : List ℕ) (h : length found ≡ length x) (f : (i : ℕ) → T (fits binary64 (at x i)))
+    (s : first ≡ each (λ v n. sure inside look v) x found) where
+  batch_map : (y : List Float) → ((i : ℕ) → T (fits binary64 (at y i))) → map (batch_number inside look) y ≡ map (number_in inside look.edges) y
+  batch_map [] k = refl
+  batch_map (v ∷ y) k = λ i. batch_number_law inside look look.tabled v (is_true (fits binary64 v) (k 0)) i ∷ batch_map y (λ j. k (suc j)) i
+
+  found_map : map (batch_number inside look) x ≡ numbers_of inside look.edges x found
+  found_map = batch_map x f ∙ sym (numbers_map inside look.edges x found h)
+
+  pub found_settled : (l : List ℕ) → l ≡ each (settled_or inside look) x first → l ≡ numbers_of inside look.edges x found
+  found_settled l p =
+      let g = settled_or inside look in
+      p ∙ ap (each g x) s ∙ each_after g (sure inside look) x found ∙ each_value (batch_number inside look) x found h ∙ found_map
+
+  first_is : first ≡ map (sure inside look) x
+  first_is = s ∙ each_value (sure inside look) x found h
+
+  all_kept : (y : List Float) → ((i : ℕ) → i < length y → get_or (map (sure inside look) y) i 0 < 8192) → map (sure inside look) y ≡ map (batch_number inside look) y
+  all_kept [] k = refl
+  all_kept (v ∷ y) k = λ i. settled_kept inside look v (sure inside look v) (k 0 (omega arith)) i ∷ all_kept y (λ j l. k (suc j) (omega arith)) i
+
+  -- nothing is marked
+  pub found_sure : (m : ℕ) → AtMost m (length x) first → m < 8192 → first ≡ numbers_of inside look.edges x found
+  found_sure m a k =
+      first_is ∙ all_kept x (λ i w.
+      let n : i < length first = omega (arith, w, ap length first_is, length-map x (sure inside look)) in
+      subst (λ (y : List ℕ). get_or y i 0 < 8192) first_is (omega (arith, a i w n, k))) ∙ found_map
 
 -- ---- which are their bins
 -- what a lookup returns, of regular edges before an index past the bins is dropped

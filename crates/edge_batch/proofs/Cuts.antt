@@ -11,7 +11,7 @@ use Rattle.laws.proofs.WholeFloats.{Whole, total_add}
 use Rattle.floats.proofs.Floor.{floor_is}
 use Rattle.bins.specs.declared.RegularBinEdges.{RegularBinEdges}
 use Rattle.edge_batch.specs.Batch.{quotient, guess_of, is_sure, is_past, number_for, sure_cut, sure_number}
-use Rattle.edge_table.proofs.Lookup.{and-true}
+use Rattle.edge_table.proofs.Lookups.{and-true}
 
 -- ---- a tested guess is the number
 one : Whole (of_bits binary64 0x3ff0_0000_0000_0000) (pos 1)

@@ -11,7 +11,7 @@ use Rattle.reducer.specs.Consume.{built_bin}
 use Rattle.edge_table.specs.declared.Ends.{Ends}
 use Rattle.edge_table.specs.declared.Table.{Table}
 use Rattle.edge_table.specs.Table.{past_end, located_bin, place_of, sure_at}
-use Rattle.edge_batch.specs.declared.Lookup.{Lookup}
+use Rattle.edge_table.specs.declared.Lookup.{Lookup}
 
 -- the bin, or a number past every bin
 abbrev pub number_or : Option ℕ → ℕ
@@ -75,11 +75,11 @@ settled_or inside look x n = cond (ltb n 8192) n (settled inside look.edges look
 abbrev pub batch_number : Bool → Lookup → Float → ℕ
 batch_number inside look x = settled_or inside look x (sure inside look x)
 
--- each value's number; as they were where the lengths differ
-unfoldable pub found_of : Bool → Lookup → List Float → List ℕ → List ℕ
-found_of inside look x found = cond (eqb (length found) (length x)) (map (batch_number inside look) x) found
-
 -- a value's number by the edges' own lookup
 abbrev pub number_in : Bool → BuiltEdges → Float → ℕ
 number_in inside (Regular e) x = number_for inside e x
 number_in inside (Irregular list) x = number_or (built_bin (Irregular list) x)
+
+-- each value's number; as they were where the lengths differ
+unfoldable pub numbers_of : Bool → BuiltEdges → List Float → List ℕ → List ℕ
+numbers_of inside edges x found = cond (eqb (length found) (length x)) (map (number_in inside edges) x) found

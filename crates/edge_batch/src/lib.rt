@@ -5,19 +5,11 @@
 
 ghost use Rattle.std.specs.Prelude.{◌≡◌, ◌<◌, length};
 ghost use Rattle.edge_table.specs.Table.{place_of, sure_at};
-ghost use Rattle.edge_batch.specs.Batch.{guess_of, is_past, number_for, sure_cut, sure_number, AtMost, each, sure, settled, settled_or, found_of};
+ghost use Rattle.edge_batch.specs.Batch.{guess_of, is_past, number_for, sure_cut, sure_number, AtMost, each, sure, settled, settled_or, numbers_of};
 
 use bins::RegularBinEdges;
-use edge_table::{Ends, NO_BIN, NOT_SETTLED, Table};
+use edge_table::{Ends, Lookup, NO_BIN, NOT_SETTLED, Table};
 use reducer::{BinEdges, BuiltEdges};
-
-// Edges, their table, and hints made by it.
-#[derive(Clone, Copy)]
-pub struct Lookup<'a> {
-    pub edges: BuiltEdges<'a>,
-    pub table: Table,
-    pub hints: &'a [u8],
-}
 
 // Numbers below it are found: their bitwise or stays below it too.
 const SETTLED_LIMIT: usize = 8192;
@@ -36,12 +28,12 @@ fn places_of<const INSIDE: bool>(table: Table, x: &[f64], found: &mut [usize])
 
 // found holds the places. What is returned is at least each number.
 #[tactic(auto, using(crate::proofs::Loops::each_set, crate::proofs::Loops::each_done, crate::proofs::Loops::most_next))]
-fn sure_bins(list: &[f64], hints: &[u8], x: &[f64], found: &mut [usize]) -> usize
+fn sure_bins(list: &[f64], hints: &[u8; 4096], x: &[f64], found: &mut [usize]) -> usize
     ensures { (found.new ≡ each (sure_at list.now hints.now) x.now found.old) × AtMost result (length x.now) found.new }
 {
     let mut all = 0;
     for q in 0..x.len().min(found.len()) {
-        let bin = edge_table::sure_at(list, hints, x[q], found[q]);
+        let bin = edge_table::sure_at(list, &hints[..], x[q], found[q]);
         found[q] = bin;
         all = all | bin;
     }
@@ -163,11 +155,11 @@ fn settle<const INSIDE: bool>(look: Lookup, x: &[f64], found: &mut [usize])
     }
 }
 
-// The bin of each value, or a number past the bins where there is none. Nothing is done where the lengths differ.
+// The number of each value's bin, one past the bins where there is none; of regular edges it may also be an index past the bins. Nothing is done where the lengths differ.
 // INSIDE: no value is past an end of the edges; of regular ones such a value has any number.
-#[tactic(auto, using(crate::proofs::Batch::found_settled), unfolding(crate::specs::Batch::found_of))]
+#[tactic(auto, unfolding(crate::specs::Batch::numbers_of))]
 pub fn bins_of<const INSIDE: bool>(look: Lookup, x: &[f64], found: &mut [usize])
-    ensures { found.new ≡ found_of INSIDE look.entry x.now found.old }
+    ensures { found.new ≡ numbers_of INSIDE look.entry.edges x.now found.old }
 {
     if found.len() != x.len() {
         return;

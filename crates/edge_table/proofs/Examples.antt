@@ -13,7 +13,7 @@ use Rattle.reducer.specs.Usable.{Searchable}
 use Rattle.edge_table.specs.declared.Table.{Table}
 use Rattle.edge_table.specs.Table.{table_of}
 use Rattle.edge_table.specs.Tabled.{Tabled}
-use Rattle.edge_table.proofs.Lookup.{tabled}
+use Rattle.edge_table.proofs.Lookups.{tabled}
 
 unfoldable pub list : List Float
 list = of_bits binary64 0 ∷ of_bits binary64 0x3ff0_0000_0000_0000 ∷ []

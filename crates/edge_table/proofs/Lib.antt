@@ -1,3 +1,3 @@
 pub mod Order
-pub mod Lookup
+pub mod Lookups
 pub mod Examples

@@ -4,14 +4,7 @@ use mathlib.Core.Path.{◌≡◌, refl, sym, ap, ◌∙◌}
 use mathlib.Core.List.{List, [], ◌∷◌, ◌++◌, map}
 use Prim.Native.Nat.{ℕ, zero, suc}
 use Rattle.definitions.specs.Lists.{flat_map, range}
-
-abbrev pub loop_left : {S : Type 0} → (ℕ → S → S) → ℕ → ℕ → S → S
-loop_left body k zero s = s
-loop_left body k (suc n) s = loop_left body (suc k) n (body k s)
-
-abbrev pub run_on : {A S : Type 0} → (A → S → S) → List A → S → S
-run_on upd [] s = s
-run_on upd (a ∷ l) s = run_on upd l (upd a s)
+use Rattle.laws.specs.Loops.{loop_left, run_on}
 
 module _ {A S : Type 0} (upd : A → S → S) where
   pub run_append : (l m : List A) (s : S) → run_on upd (l ++ m) s ≡ run_on upd m (run_on upd l s)

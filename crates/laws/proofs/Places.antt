@@ -16,11 +16,10 @@ use lib.Seq.{get_or-set_same, get_or-set_other, drop-cons, set_at, append_snoc, 
 use lib.Ieee.{Float, nan, binary64, add, mul}
 use Rattle.definitions.specs.Lists.{at, range, upto, overwritten, add_opt, fold_at, later_pairs, all_pairs}
 use Rattle.definitions.specs.Reducer.{mean_term, in_bin}
+use Rattle.laws.specs.Loops.{loop_left, run_on, fold_pack}
+use Rattle.laws.specs.Stores.{bump, add_hist, add_mean}
 use Rattle.laws.proofs.Lists.{with, range_length, range_add}
-use Rattle.laws.proofs.Loops.{loop_left, run_on, run_append, loop_map, loop_flat, flat_map_law}
-
-abbrev pub fold_pack : {A : Type 0} → (A → List Float → List Float) → List A → List Float → List Float
-fold_pack upd l s = run_on upd l s
+use Rattle.laws.proofs.Loops.{run_append, loop_map, loop_flat, flat_map_law}
 
 module _ {A : Type 0} (upd : A → List Float → List Float) (n : ℕ) (t : ℕ → A → Option Float) (keeps : (a : A) (s : List Float) → length (upd a s) ≡ length s)
     (one : (a : A) (s : List Float) (p : ℕ) → length s ≡ n → p < n → at (upd a s) p ≡ add_opt (t p a) (at s p)) where
@@ -66,21 +65,12 @@ module _ (f : ℕ → Float) where
   overwritten_past n s i h =
       ap (at (overwritten n f s)) (omega (arith, table_length n)) ∙ get_or-append-add (map f (upto n)) (drop n s) (i - n) nan ∙ get_or-drop n s (i - n) nan ∙ ap (at s) (omega arith)
 
--- number e of state s is at e * n + s
-abbrev pub bump : ℕ → Float → List Float → List Float
-bump i x s = set s i (add binary64 (at s i) x)
-
+-- ---- number e of state s is at e * n + s
 bump_here : (i : ℕ) (x : Float) (s : List Float) → i < length s → at (bump i x s) i ≡ add binary64 (at s i) x
 bump_here i x s h = get_or-set_same s i (add binary64 (at s i) x) nan h
 
 bump_else : (i p : ℕ) (x : Float) (s : List Float) → p ≢ i → at (bump i x s) p ≡ at s p
 bump_else i p x s h = get_or-set_other s i p (add binary64 (at s i) x) nan h
-
-abbrev pub add_hist : ℕ → ℕ → ℕ → Float → List Float → List Float
-add_hist n s b w pack = bump (b * n + s) w pack
-
-abbrev pub add_mean : ℕ → ℕ → Float → Float → List Float → List Float
-add_mean n s v w pack = bump (1 * n + s) w (bump (0 * n + s) (mul binary64 v w) pack)
 
 -- place p is number p / n of state p % n
 place_of_law : (n p : ℕ) → p / n * n + p % n ≡ p

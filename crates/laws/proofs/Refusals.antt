@@ -7,6 +7,7 @@ use lib.Dec.{T, eqb, T_not}
 use lib.Ieee.Fits.{and_i, and_l, and_r}
 use lib.Ieee.Bits.{is_false}
 use Rattle.definitions.specs.Rules.{Rule, refusal}
+use Rattle.laws.specs.Refusals.{or_else}
 
 -- no rule has the number 0, which stands for none: of a written table this computes
 abbrev pub numbered : List Rule → Bool
@@ -16,10 +17,6 @@ numbered (r ∷ l) = not (eqb r.number 0) && numbered l
 abbrev pub none_broken : List Rule → Bool
 none_broken [] = true
 none_broken (r ∷ l) = not r.broken && none_broken l
-
--- the first number, or the second where the first is none
-abbrev pub or_else : ℕ → ℕ → ℕ
-or_else a b = cond (eqb a 0) b a
 
 or_else_some : (a b : ℕ) → T (not (eqb a 0)) → or_else a b ≡ a
 or_else_some a b h = ap (λ (t : Bool). cond t b a) (is_false (eqb a 0) h)

@@ -21,7 +21,8 @@ use Rattle.definitions.specs.Reducer as kinds
 use Rattle.definitions.specs.Run.{Sets, one_points, two_points, one_block, two_blocks, Run, merged}
 use Rattle.definitions.specs.Rules as rules
 use Rattle.definitions.specs.Rules.{rule, refusal, over_sets, over_state, over_pack, edge_rules, kind_rules, set_rules, pair_rules, run_rules, step}
-use Rattle.laws.proofs.Refusals.{numbered, or_else, refusal_append}
+use Rattle.laws.specs.Refusals.{or_else}
+use Rattle.laws.proofs.Refusals.{numbered, refusal_append}
 use Rattle.state_refusals.specs.declared.PackShape.{PackShape}
 use Rattle.reducer.specs.Readings.{edges_of, kind_of}
 use Rattle.parallel_serial.specs.declared.RunSpec.{RunSpec}

@@ -1,14 +1,12 @@
 -- What the runs share: the run that a caller states, its refusal by numbers, and the scratch pack.
 use Rattle.std.specs.Prelude.{List, [], ◌∷◌, Bool, false, not, cond, ◌&&◌, ◌||◌, ℕ, zero, suc, ◌+◌, ◌*◌, leb, ltb, eqb, length, replicate, Float}
-use Rattle.definitions.specs.Lists.{at}
 use Rattle.definitions.specs.Floats.{zero_f}
 use Rattle.definitions.specs.Bins.{bins}
 use Rattle.definitions.specs.Reducer.{kind_size}
 use Rattle.definitions.specs.Run.{Sets, Run}
 use Rattle.definitions.specs.State.{merge_packs}
 use Rattle.definitions.specs.Rules.{Rule, rule, refusal, over_pack, edge_rules, kind_rules}
-use Rattle.laws.proofs.Places.{bump}
-use Rattle.laws.proofs.Refusals.{or_else}
+use Rattle.laws.specs.Refusals.{or_else}
 use Rattle.reducer.specs.Readings.{op_of, edges_of, kind_of}
 use Rattle.state_refusals.specs.declared.PackShape.{PackShape}
 use Rattle.parallel_serial.specs.declared.Shape.{Shape}
@@ -17,11 +15,6 @@ use Rattle.parallel_serial.specs.declared.RunSpec.{RunSpec}
 -- a pack of 4,096 zeros; shut, so that no goal writes it out
 unfoldable pub zero_pack : List Float
 zero_pack = replicate 4096 (zero_f false)
-
--- n numbers of scratch, from place i on, added to the pack's in turn
-unfoldable pub summed : List Float → ℕ → ℕ → List Float → List Float
-summed scratch i zero pack = pack
-summed scratch i (suc n) pack = summed scratch (i + 1) n (bump i (at scratch i) pack)
 
 -- scratch is added to the front of the caller's pack, caller's number first; nothing where it is longer
 unfoldable pub added_scratch : List Float → List Float → List Float

@@ -18,7 +18,8 @@ use Rattle.refusals.proofs.Answers.{number_nonzero, number_carried}
 use Rattle.std.specs.Borrow.{Bor}
 use Rattle.definitions.specs.Floats.{zero_f}
 use Rattle.definitions.specs.Rules.{Rule, rule, refusal}
-use Rattle.laws.proofs.Refusals.{or_else, refusal_append}
+use Rattle.laws.specs.Refusals.{or_else}
+use Rattle.laws.proofs.Refusals.{refusal_append}
 use Rattle.definitions.specs.Records.{curve_bins, curve_bytes, curve_lines, curve_pack, curve_rules, entry_rules, entry_output, refused_line, printed, curve_text, program_text}
 use Rattle.record_bytes.specs.Stores.{stored}
 use Rattle.record_bytes.specs.Columns.{curve_records, records_fitting}

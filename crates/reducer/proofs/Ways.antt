@@ -18,7 +18,7 @@ use Rattle.definitions.specs.Bins.{below}
 use Rattle.definitions.specs.Run.{place}
 use Rattle.definitions.specs.Reducer as definitions
 use Rattle.definitions.specs.Reducer.{datum_of, component_sum}
-use Rattle.laws.proofs.Places.{bump, add_mean, add_hist}
+use Rattle.laws.specs.Stores.{bump, add_mean, add_hist}
 use Rattle.reducer.specs.declared.PairOperation.{PairOperation}
 use Rattle.reducer.specs.declared.PairOperation.TheVariants.{ElementwiseMultiply, ElementwiseSub}
 use Rattle.reducer.specs.declared.Reducer.TheVariants.{Comp0Mean, ComponentSumMean, ComponentSumHistogram}

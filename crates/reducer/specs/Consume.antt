@@ -3,7 +3,7 @@ use Rattle.std.specs.Prelude.{Option, None, Some}
 use Rattle.std.specs.Prelude.{List, Bool, cond, ◌&&◌, ℕ, ◌-◌, ◌*◌, leb, ltb, length, Float}
 use Rattle.definitions.specs.Bins.{regular_index, irregular_index, below}
 use Rattle.definitions.specs.Reducer.{Datum, component_sum, state_size}
-use Rattle.laws.proofs.Places.{add_mean, add_hist}
+use Rattle.laws.specs.Stores.{add_mean, add_hist}
 use Rattle.bins.specs.Answers.{regular_of}
 use Rattle.state_refusals.specs.declared.StateKind.{StateKind}
 use Rattle.state_refusals.specs.declared.StateKind.TheVariants.{Mean, Histogram}

@@ -5,7 +5,7 @@ ghost use Rattle.std.specs.Prelude.{◌≡◌, ℕ, ◌*◌, ◌<◌, ◌≤◌,
 ghost use Rattle.definitions.specs.Bins.{below};
 ghost use Rattle.definitions.specs.Reducer.{datum_of, component_sum};
 ghost use Rattle.definitions.specs.Run.{place};
-ghost use Rattle.laws.proofs.Places.{bump, add_mean};
+ghost use Rattle.laws.specs.Stores.{bump, add_mean};
 ghost use Rattle.state_refusals.specs.Readings.{state_kind_of};
 ghost use Rattle.reducer.specs.Readings.{op_of, the_datum, reading_of};
 ghost use Rattle.reducer.specs.Consume.{bins_in, state_kind_in, size_in, built_find, built_bin, has_room, add_in, value_bin, consumed_at, consumed};

@@ -13,7 +13,7 @@ use Rattle.definitions.specs.Bins as definitions
 use Rattle.definitions.specs.Bins.{bins, irregular}
 use Rattle.definitions.specs.Reducer.{state_kind, kind_size}
 use Rattle.definitions.specs.Rules.{rule, refusal, over_state, kind_rules, edges_call_rules, all_finite, increasing}
-use Rattle.laws.proofs.Refusals.{or_else}
+use Rattle.laws.specs.Refusals.{or_else}
 use Rattle.reducer.specs.declared.RegularEdges.{RegularEdges}
 use Rattle.reducer.specs.declared.BinEdges.TheVariants.{Regular, Irregular}
 use Rattle.reducer.specs.declared.Reducer.TheVariants.{Comp0Mean, ComponentSumMean, ComponentSumHistogram}

@@ -8,7 +8,8 @@ use borrow.Author.Tests.{ltb-false}
 use Rattle.definitions.specs.Blocks as blocks
 use Rattle.definitions.specs.Blocks.{CartesianBlock, required_length}
 use Rattle.definitions.specs.Rules.{refusal, zero_axis, outside, over_block, block_rules, width_rules, set_rules}
-use Rattle.laws.proofs.Refusals.{or_else, refusal_append}
+use Rattle.laws.specs.Refusals.{or_else}
+use Rattle.laws.proofs.Refusals.{refusal_append}
 use Rattle.spatial.specs.declared.Block.{Block}
 use Rattle.parallel_serial.specs.declared.Sets.{Sets}
 use Rattle.parallel_serial.specs.declared.Sets.TheVariants.{Cross}

@@ -9,6 +9,9 @@ ghost use Rattle.state_refusals.specs.Readings.{state_kind_of};
 
 use refusals::Refusal;
 
+// A mean's numbers: total and weight.
+pub const MEAN_SIZE: usize = 2;
+
 // A mean, or a histogram by its count of value bins.
 #[derive(Clone, Copy)]
 pub enum StateKind {
@@ -37,7 +40,7 @@ pub fn accum_state_size(kind: StateKind) -> usize
     ensures { result ≡ state_size (state_kind_of kind) }
 {
     match kind {
-        StateKind::Mean => 2,
+        StateKind::Mean => MEAN_SIZE,
         StateKind::Histogram(n) => n,
     }
 }

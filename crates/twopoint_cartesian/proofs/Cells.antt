@@ -11,8 +11,9 @@ use mir.Syntax.{w64}
 use mir.Val.{to_z, of_z}
 use Rattle.definitions.specs.Blocks.{CartesianBlock, Cell, cell, cell_index, start_a, start_b, count, cell_pairs}
 use Rattle.definitions.specs.Blocks as blocks
-use Rattle.laws.proofs.Loops.{loop_left, run_on, loop3}
-use Rattle.laws.proofs.Places.{fold_pack}
+use Rattle.laws.specs.Loops.{loop_left, run_on}
+use Rattle.laws.proofs.Loops.{loop3}
+use Rattle.laws.specs.Loops.{fold_pack}
 use Rattle.idx_3d_offset.specs.declared.Axes.{Axes}
 use Rattle.idx_3d_offset.specs.declared.Idx3DOffset.{Idx3DOffset}
 use Rattle.idx_3d_offset.specs.Offsets.{idx_of, Within, Reach, Walkable}

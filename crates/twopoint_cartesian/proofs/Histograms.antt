@@ -16,16 +16,17 @@ use Rattle.definitions.specs.Bins.{below}
 use Rattle.definitions.specs.Lists.{at, overwritten}
 use Rattle.definitions.specs.Reducer as definitions
 use Rattle.definitions.specs.Reducer.{component_sum}
-use Rattle.laws.proofs.Loops.{loop_left}
-use Rattle.laws.proofs.Places.{bump, overwritten_turn, overwritten_at, overwritten_length}
+use Rattle.laws.specs.Loops.{loop_left}
+use Rattle.laws.specs.Stores.{bump}
+use Rattle.laws.proofs.Places.{overwritten_turn, overwritten_at, overwritten_length}
 use Rattle.reducer.specs.declared.Datum.{Datum}
 use Rattle.reducer.specs.declared.Reducer.TheVariants.{ComponentSumHistogram}
 use Rattle.reducer.specs.Readings.{BuiltEdges, BuiltReducer, op_of, the_datum, reading_of}
 use Rattle.reducer.specs.Consume as consume
 use Rattle.reducer.specs.Consume.{built_bins, add_in, consumed}
 use Rattle.reducer.proofs.Placewise.{room, kept_bin, consumed_length}
-use Rattle.edge_batch.specs.Batch.{number_or, found_of, number_in}
-use Rattle.edge_batch.proofs.Batch.{found_bins, index_in, index_number, index_bin}
+use Rattle.edge_batch.specs.Batch.{number_or, number_in, numbers_of}
+use Rattle.edge_batch.proofs.Batch.{numbers_map, index_in, index_number, index_bin}
 use Rattle.idx_3d_offset.specs.declared.Idx3DOffset.{Idx3DOffset}
 use Rattle.spatial.specs.declared.Block.{Block}
 use Rattle.spatial.specs.Readings.{block_of}
@@ -146,12 +147,12 @@ module _ (by : Histograms) (len : ℕ) (sized : len ≡ built_bins by.values.edg
         (omega arith) t p
 
   -- rows whose values were looked up together
-  module _ (p : Plane) (m : ℕ) (vs : List Float) (f fs : List ℕ) (g : Gathered setup p m vs) (lv : length vs ≡ m * p.rows.n) (lf : length f ≡ m * p.rows.n) (held : (k : ℕ) → T (fits binary64 (at vs k))) (ef : fs ≡ found_of false by.values vs f) where
+  module _ (p : Plane) (m : ℕ) (vs : List Float) (f fs : List ℕ) (g : Gathered setup p m vs) (lv : length vs ≡ m * p.rows.n) (lf : length f ≡ m * p.rows.n) (held : (k : ℕ) → T (fits binary64 (at vs k))) (ef : fs ≡ numbers_of false by.values.edges vs f) where
     abbrev n : ℕ
     n = p.rows.n
 
     bins_are : fs ≡ map bin vs
-    bins_are = ef ∙ found_bins false by.values by.tabled vs f held (lf ∙ sym lv)
+    bins_are = ef ∙ numbers_map false by.values.edges vs f (lf ∙ sym lv)
 
     part_bins : (y x : ℕ) → y < m → x < n → get_or (take n (drop (y * n) fs)) x 0 ≡ bin (row_value setup (row_at p y) x)
     part_bins y x h k =

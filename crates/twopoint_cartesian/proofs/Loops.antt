@@ -6,7 +6,7 @@ use native.Mathlib.Nat.{sub-zero, add-zero, zero-add, add-mul}
 use native.Mathlib.Numerals.{add-one}
 use native.Mathlib.Omega.{arith}
 use lib.Ieee.{Float}
-use Rattle.laws.proofs.Loops.{loop_left}
+use Rattle.laws.specs.Loops.{loop_left}
 use Rattle.parallel_serial.specs.declared.Setup.{Setup}
 use Rattle.twopoint_cartesian.specs.Cells.{Plane, Pairs, row_at, part_at, plane_at, row_added, plane_added, block_added}
 

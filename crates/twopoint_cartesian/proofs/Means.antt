@@ -11,7 +11,7 @@ use Rattle.definitions.specs.Blocks as blocks
 use Rattle.definitions.specs.Blocks.{CartesianBlock, cell_index, count, cell_pairs, distance_squared}
 use Rattle.definitions.specs.Reducer as definitions
 use Rattle.definitions.specs.Reducer.{component_sum}
-use Rattle.laws.proofs.Loops.{loop_left}
+use Rattle.laws.specs.Loops.{loop_left}
 use Rattle.reducer.specs.declared.Datum.{Datum}
 use Rattle.reducer.specs.declared.Reducer.TheVariants.{Comp0Mean, ComponentSumMean, ComponentSumHistogram}
 use Rattle.reducer.specs.Readings.{BuiltEdges, BuiltReducer, the_datum}

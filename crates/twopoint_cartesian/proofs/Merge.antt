@@ -16,7 +16,8 @@ use Rattle.definitions.specs.Bins.{below}
 use Rattle.definitions.specs.Blocks as blocks
 use Rattle.definitions.specs.Blocks.{CartesianBlock, Cell, cell_pairs}
 use Rattle.definitions.specs.Run.{place}
-use Rattle.laws.proofs.Places.{fold_pack, bump}
+use Rattle.laws.specs.Loops.{fold_pack}
+use Rattle.laws.specs.Stores.{bump}
 use Rattle.reducer.proofs.Placewise.{consumed_length}
 use Rattle.reducer.specs.Consume.{built_bins, built_find, built_bin}
 use Rattle.parallel_serial.specs.declared.Setup.{Setup}

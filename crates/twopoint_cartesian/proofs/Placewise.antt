@@ -17,8 +17,10 @@ use Rattle.definitions.specs.Blocks as blocks
 use Rattle.definitions.specs.Blocks.{CartesianBlock, Cell, cell_index, reading_at, cell_pairs, distance_squared}
 use Rattle.definitions.specs.Reducer.{datum_of, datum_term, kind_size, in_bin}
 use Rattle.definitions.specs.Run.{Sets, Run, used, place, state_at, number_at, cells_at, offset_at}
-use Rattle.laws.proofs.Loops.{loop_left}
-use Rattle.laws.proofs.Places.{fold_pack, placewise, bump, hist_at}
+use Rattle.laws.specs.Loops.{loop_left}
+use Rattle.laws.specs.Loops.{fold_pack}
+use Rattle.laws.specs.Stores.{bump}
+use Rattle.laws.proofs.Places.{placewise, hist_at}
 use Rattle.reducer.specs.Readings.{BuiltEdges, op_of, edges_of, kind_of}
 use Rattle.reducer.specs.Consume.{built_bin, consumed}
 use Rattle.reducer.proofs.Placewise.{bin_bounded, room, made_bin, consumed_at_law}

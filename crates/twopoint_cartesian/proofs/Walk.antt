@@ -10,7 +10,7 @@ use lib.ListN.{length}
 use lib.Ieee.{Float}
 use Rattle.definitions.specs.Blocks as blocks
 use Rattle.definitions.specs.Blocks.{CartesianBlock, distance_squared}
-use Rattle.laws.proofs.Places.{fold_pack}
+use Rattle.laws.specs.Loops.{fold_pack}
 use Rattle.reducer.specs.Consume.{built_bin}
 use Rattle.idx_3d_offset.specs.declared.Idx3DOffset.{Idx3DOffset}
 use Rattle.idx_3d_offset.specs.declared.Offsets.{Offsets}

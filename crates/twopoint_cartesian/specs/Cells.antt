@@ -10,8 +10,9 @@ use Rattle.definitions.specs.Blocks.{CartesianBlock, Cell, cell, cell_index, sta
 use Rattle.definitions.specs.Blocks as Blocks
 use Rattle.definitions.specs.Reducer.{Datum, datum_of, component_sum}
 use Rattle.definitions.specs.Run.{place}
-use Rattle.laws.proofs.Loops.{loop_left}
-use Rattle.laws.proofs.Places.{fold_pack, bump}
+use Rattle.laws.specs.Loops.{loop_left}
+use Rattle.laws.specs.Loops.{fold_pack}
+use Rattle.laws.specs.Stores.{bump}
 use Rattle.reducer.specs.declared.Reducer.TheVariants.{Comp0Mean, ComponentSumMean, ComponentSumHistogram}
 use Rattle.reducer.specs.Readings.{BuiltReducer, op_of}
 use Rattle.reducer.specs.Consume.{built_bin, consumed}

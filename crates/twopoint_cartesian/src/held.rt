@@ -8,8 +8,7 @@ ghost use Rattle.edge_table.specs.Tabled.{Tabled, Tabled-prop};
 ghost use Rattle.idx_3d_offset.specs.Walk.{offsets_left};
 ghost use Rattle.twopoint_cartesian.specs.Held.{fields_of, RowFits, PlaneFits, BlockFits, Reached, AllReached, is_mean};
 
-use edge_batch::Lookup;
-use edge_table::Ends;
+use edge_table::{Ends, Lookup};
 use idx_3d_offset::{Idx3DOffset, Offsets};
 use parallel_serial::Setup;
 use spatial::{Block, CellWidth};
@@ -121,7 +120,6 @@ pub struct Means<'a> {
 pub struct Histograms<'a> {
     pub distances: Distances<'a>,
     pub values: Lookup<'a>,
-    ghost tabled: { Tabled values.edges values.table.ends } by { Tabled-prop values.edges values.table.ends },
     ghost histogram: { distances.setup.reducer ≡ ComponentSumHistogram values.edges } by { Prim.hlevel props },
 }
 

@@ -5,6 +5,7 @@ ghost use Rattle.std.specs.Prelude.{◌≡◌, ◌+◌, ◌*◌, ◌<◌, ◌≤
 ghost use Rattle.definitions.specs.Lists.{overwritten};
 ghost use Rattle.definitions.specs.Points.{square};
 ghost use Rattle.definitions.specs.Blocks.{cell, cell_index, displaced, distance_squared};
+ghost use Rattle.definitions.specs.Reducer.{mean_size};
 ghost use Rattle.definitions.specs.Rules.{refusal, run_rules, step};
 ghost use Rattle.definitions.specs.Run.{place};
 ghost use Rattle.refusals.specs.Numbers.{number_of};
@@ -21,7 +22,7 @@ ghost use Rattle.twopoint_cartesian.specs.Cells.{row_of, plane_of, pairs_of, row
 
 mod held;
 
-use edge_batch::Lookup;
+use edge_table::Lookup;
 use held::{
     Distances, Fields, Histograms, Mean, Means, Overlap, Overlaps, PairBlock, PairPlane, PairRow,
     Planes, Room, Rows,
@@ -428,8 +429,8 @@ impl<'a> Iterator for Overlaps<'a> {
 impl<'a> Means<'a> {
     // The mean of an overlap, into its bin, if its distance has one.
     fn add_mean(self, at: Overlap, scratch: &mut [f64])
-        requires { self.distances.setup.n_states * 2 ≤ length scratch.old }
-        ensures { scratch.new ≡ overlap_added self.entry.distances.setup (width_of self.entry.distances.width) 2 (overlap_in at.entry) scratch.old }
+        requires { self.distances.setup.n_states * mean_size ≤ length scratch.old }
+        ensures { scratch.new ≡ overlap_added self.entry.distances.setup (width_of self.entry.distances.width) mean_size (overlap_in at.entry) scratch.old }
     {
         let setup = self.distances.setup;
         if let Some(bin) = self.distances.bin_of(at) {
@@ -440,36 +441,11 @@ impl<'a> Means<'a> {
 
     // All of them, in order.
     fn fill(self, all: Overlaps, scratch: &mut [f64])
-        requires { self.distances.setup.n_states * 2 ≤ length scratch.old }
-        ensures { scratch.new ≡ overlaps_added self.entry.distances.setup (width_of self.entry.distances.width) 2 (overlaps_left all.entry) scratch.old }
+        requires { self.distances.setup.n_states * mean_size ≤ length scratch.old }
+        ensures { scratch.new ≡ overlaps_added self.entry.distances.setup (width_of self.entry.distances.width) mean_size (overlaps_left all.entry) scratch.old }
     {
         for at in all {
             self.add_mean(at, scratch);
-        }
-    }
-
-    // A run in a scratch of N numbers, which is then added to the caller's pack.
-    fn run_in<const N: usize>(self, all: Overlaps, pack: &mut [f64])
-        requires enough { self.distances.setup.n_states * 2 ≤ N }
-        requires most { N ≤ 4096 }
-        ensures { pack.new ≡ added_scratch pack.old (overlaps_added self.entry.distances.setup (width_of self.entry.distances.width) 2
-            (overlaps_left all.entry) (take (self.entry.distances.setup.n_states * 2) zero_pack)) }
-    {
-        let used = self.distances.setup.n_states * 2;
-        let mut scratch = floats::zeros::<N>();
-        self.fill(all, &mut scratch[..used]);
-        parallel_serial::add_scratch(&scratch[..used], pack);
-    }
-
-    // A scratch of 64 numbers is zeroed in 7 ns, one of 512 in 33; the walk over 2x2x2 cells takes some 500.
-    fn run(self, all: Overlaps, pack: &mut [f64])
-        ensures { pack.new ≡ added_scratch pack.old (overlaps_added self.entry.distances.setup (width_of self.entry.distances.width) 2
-            (overlaps_left all.entry) (take (self.entry.distances.setup.n_states * 2) zero_pack)) }
-    {
-        if self.distances.setup.n_states <= 32 {
-            self.run_in::<64>(all, pack);
-        } else {
-            self.run_in::<512>(all, pack);
         }
     }
 }
@@ -572,30 +548,13 @@ impl<'a> Histograms<'a> {
             self.add_overlap(at, &mut *room, scratch);
         }
     }
-
-    // A run, with all room made here, added to the caller's pack; its scratch as in Means, a line to make it and one to add it.
-    fn run(self, all: Overlaps, pack: &mut [f64])
-        ensures { pack.new ≡ added_scratch pack.old (overlaps_added self.entry.distances.setup (width_of self.entry.distances.width)
-            (built_bins self.entry.values.edges) (overlaps_left all.entry)
-            (take (self.entry.distances.setup.n_states * built_bins self.entry.values.edges) zero_pack)) }
-    {
-        let used = self.distances.setup.n_states * self.values.edges.n_bins();
-        let mut room = Room {
-            values: [0.0; 64],
-            found: [0; 64],
-            state: floats::zeros::<256>(),
-        };
-        let mut scratch = floats::zeros::<4096>();
-        self.fill(all, &mut room, &mut scratch[..used]);
-        parallel_serial::add_scratch(&scratch[..used], pack);
-    }
 }
 
-// A histogram's run, with its table and its hints.
-fn run_histogram(distances: Distances, edges: BuiltEdges, all: Overlaps, pack: &mut [f64])
-    requires { distances.setup.reducer ≡ ComponentSumHistogram edges }
-    ensures { pack.new ≡ added_scratch pack.old (overlaps_added distances.entry.setup (width_of distances.entry.width)
-        (built_bins edges.entry) (overlaps_left all.entry) (take (distances.entry.setup.n_states * built_bins edges.entry) zero_pack)) }
+// A histogram's walk: the lookup of its values and all room are made here.
+fn fill_histogram(distances: Distances, edges: BuiltEdges, all: Overlaps, scratch: &mut [f64])
+    requires kind { distances.setup.reducer ≡ ComponentSumHistogram edges }
+    requires used { distances.setup.n_states * built_bins edges ≤ length scratch.old }
+    ensures { scratch.new ≡ overlaps_added distances.entry.setup (width_of distances.entry.width) (built_bins edges.entry) (overlaps_left all.entry) scratch.old }
 {
     let table = edge_table::table_of(edges, 4093.0);
     let mut hints = [0u8; 4096];
@@ -605,23 +564,38 @@ fn run_histogram(distances: Distances, edges: BuiltEdges, all: Overlaps, pack: &
         table,
         hints: &hints,
     };
-    Histograms { distances, values }.run(all, pack);
+    let mut room = Room {
+        values: [0.0; 64],
+        found: [0; 64],
+        state: [0.0; 256],
+    };
+    Histograms { distances, values }.fill(all, &mut room, scratch);
 }
 
 // ---- runs
 
-// An accepted run. `drive` and `run` have their like in unstructured, which says why they are two.
+// All pairs of the run into scratch.
+fn fill(setup: Setup, width: CellWidth, all: Overlaps, scratch: &mut [f64])
+    requires { setup.n_states * reducer_size setup.reducer ≤ length scratch.old }
+    ensures { scratch.new ≡ overlaps_added setup.entry (width_of width) (reducer_size setup.entry.reducer) (overlaps_left all.entry) scratch.old }
+{
+    let ends = edge_table::ends_of(setup.edges);
+    let distances = Distances { setup, ends, width };
+    match setup.reducer {
+        Reducer::ComponentSumHistogram(edges) => fill_histogram(distances, edges, all, scratch),
+        _ => Means { distances }.fill(all, scratch),
+    }
+}
+
+// An accepted run: the used prefix of a scratch pack, added to the caller's. `drive` and `run` have their like in unstructured, which says why they are two.
 fn drive(setup: Setup, width: CellWidth, all: Overlaps, pack: &mut [f64])
     ensures { pack.new ≡ added_scratch pack.old (overlaps_added setup.entry (width_of width) (reducer_size setup.entry.reducer)
         (overlaps_left all.entry) (take (setup.entry.n_states * reducer_size setup.entry.reducer) zero_pack)) }
 {
-    let ends = edge_table::ends_of(setup.edges);
-    let distances = Distances { setup, ends, width };
-    let Reducer::ComponentSumHistogram(edges) = setup.reducer else {
-        Means { distances }.run(all, pack);
-        return;
-    };
-    run_histogram(distances, edges, all, pack);
+    let mut zeros = [0.0; 4096];
+    let scratch = &mut zeros[..setup.n_states * setup.reducer.state_size()];
+    fill(setup, width, all, &mut *scratch);
+    parallel_serial::add_scratch(scratch, pack);
 }
 
 fn run(sets: Sets<Block>, width: CellWidth, spec: RunSpec, pack: &mut [f64]) -> Result<(), Refusal>

@@ -22,26 +22,28 @@ use Rattle.definitions.specs.Points as points
 use Rattle.definitions.specs.Points.{Reading, squared_diff_norm}
 use Rattle.definitions.specs.Reducer.{Datum, kept, dropped, component_sum, pair_in, datum_of}
 use Rattle.definitions.specs.Reducer as Reducer
-use Rattle.laws.proofs.Loops.{run_on, run_append}
+use Rattle.laws.specs.Loops.{run_on}
+use Rattle.laws.proofs.Loops.{run_append}
 use Rattle.reducer.specs.declared.PairOperation.{PairOperation}
 use Rattle.reducer.specs.declared.Reducer.TheVariants.{Comp0Mean, ComponentSumMean, ComponentSumHistogram}
 use Rattle.reducer.specs.Readings.{BuiltEdges, BuiltReducer, op_of}
 use Rattle.reducer.specs.Consume.{reducer_size, built_bins, built_bin, has_room, add_in, consumed_at, consumed}
 use Rattle.reducer.proofs.Placewise.{kept_bin}
 use Rattle.edge_table.specs.declared.Ends.{Ends}
+use Rattle.edge_table.specs.declared.Lookup.{Lookup}
 use Rattle.edge_table.specs.Table.{past_end, ends_bin}
 use Rattle.edge_table.specs.Tabled.{EndsOf, Tabled}
-use Rattle.edge_table.proofs.Lookup.{bin_past, found_bin}
+use Rattle.edge_table.proofs.Lookups.{bin_past, found_bin}
 use Rattle.edge_batch.specs.Batch.{number_or, number_in}
 use Rattle.edge_batch.proofs.Batch.{index_in, index_number, index_bin, inside_bin}
 use Rattle.parallel_serial.specs.declared.Setup.{Setup}
-use Rattle.unstructured.specs.declared.Pair.{Pair}
-use Rattle.unstructured.specs.declared.held.EdgeTable.{EdgeTable}
+use Rattle.point_pairs.specs.declared.Pair.{Pair}
+use Rattle.point_pairs.specs.Pairs.{the_pair}
 use Rattle.unstructured.specs.declared.held.Points.{Points}
 use Rattle.unstructured.specs.declared.held.Readings.{Readings}
 use Rattle.unstructured.specs.Held.{Listed, Parts, value_edges}
-use Rattle.unstructured.specs.Pairs.{the_pair, point_in, built_pair, pair_added, pair_step, row_added}
-use Rattle.unstructured.specs.Batches.{reading_in, also, kept_below, picked, numbered_pair, pair_placed, pair_values, placed_to, weight_datum, weights_to, value_numbers, places_added}
+use Rattle.unstructured.specs.Pairs.{point_in, built_pair, pair_consumed, pair_step, row_added}
+use Rattle.unstructured.specs.Batches.{reading_in, also, kept_below, picked, numbered_pair, pair_placed, pair_values, placed_to, value_numbers, places_added}
 
 -- ---- one more place stored
 pub stored_next : {A : Type 0} (o : A) (d : List A) (e : ℕ) (v : A) (g : ℕ → A) → e < length d → v ≡ g e → ((x : ℕ) → x < e → get_or d x o ≡ g x)
@@ -107,19 +109,6 @@ module _ (n size b len : ℕ) where
       go true = rw h
       go false = refl
 
-  past_states : ltb b n ≡ false → has_room n size b len ≡ false
-  unfolding has_room
-  past_states h = go (leb n 4096) (leb size 4096)
-    where
-      go : (p q : Bool) → (p && q && ltb b n && leb (n * size) len) ≡ false
-      go true true = rw h
-      go true false = refl
-      go false q = refl
-
-no_room : (r : BuiltReducer) (o : Option ℕ) (n b : ℕ) (d : Datum) (s : List Float) → has_room n (reducer_size r) b (length s) ≡ false → consumed_at r o n b d s ≡ s
-unfolding consumed_at
-no_room r o n b d s h = rw h
-
 -- the number of no bin is past each histogram
 histogram_number : (e : BuiltEdges) (n b : ℕ) (d : Datum) (s : List Float) (o : Option ℕ)
     → consumed_at (ComponentSumHistogram e) (Some (number_or o)) n b d s ≡ consumed_at (ComponentSumHistogram e) o n b d s
@@ -149,11 +138,11 @@ module _ (setup : Setup) (x y : Reading) (v : ℕ) (s : List Float) where
 
   -- a pair by the number of its bin
   numbered : (k : ℕ) (o : Option ℕ) → below setup.n_states (Some k) ≡ o → ((e : BuiltEdges) → value_edges setup.reducer ≡ Some e → v ≡ number_in false e (component_sum datum))
-      → pair_placed setup v (numbered_pair setup x y k) s ≡ pair_added setup (pair_in o datum) s
+      → pair_placed setup v (numbered_pair setup x y k) s ≡ pair_consumed setup (pair_in o datum) s
   unfolding numbered_pair
   numbered k o e h = ap (λ (p : Option ℕ). pair_placed setup v (pair_in p datum) s) e ∙ go o
     where
-      go : (p : Option ℕ) → pair_placed setup v (pair_in p datum) s ≡ pair_added setup (pair_in p datum) s
+      go : (p : Option ℕ) → pair_placed setup v (pair_in p datum) s ≡ pair_consumed setup (pair_in p datum) s
       go None = refl
       go (Some i) = value_number setup.n_states i datum s v setup.reducer h
 
@@ -339,12 +328,12 @@ module _ (x : Reading) (r : ℕ → Reading) (op : PairOperation) where
       (λ q l. h q (omega arith) ∙ sym (at_map (λ p. component_sum (datum_of (op_of op) x (r p))) places q 0 nan (omega arith)))
 
 -- ---- lookups
-module _ (o : Option EdgeTable) (x : List Float) (found v : List ℕ) where
-  pub some_numbers : (t : EdgeTable) → o ≡ Some t → v ≡ map (number_in false t.edges) x → v ≡ value_numbers (option_map (λ e. e.edges) o) x found
-  some_numbers t h e = e ∙ (λ i. value_numbers (option_map (λ (y : EdgeTable). y.edges) (sym h i)) x found)
+module _ (o : Option Lookup) (x : List Float) (found v : List ℕ) where
+  pub some_numbers : (t : Lookup) → o ≡ Some t → v ≡ map (number_in false t.edges) x → v ≡ value_numbers (option_map (λ e. e.edges) o) x found
+  some_numbers t h e = e ∙ (λ i. value_numbers (option_map (λ (y : Lookup). y.edges) (sym h i)) x found)
 
   pub no_numbers : o ≡ None → v ≡ found → v ≡ value_numbers (option_map (λ e. e.edges) o) x found
-  no_numbers h e = e ∙ (λ i. value_numbers (option_map (λ (y : EdgeTable). y.edges) (sym h i)) x found)
+  no_numbers h e = e ∙ (λ i. value_numbers (option_map (λ (y : Lookup). y.edges) (sym h i)) x found)
 
 -- of the distances d, by edges e, and of the values, by value edges o
 pub places_added_law : (setup : Setup) (e : BuiltEdges) (o : Option BuiltEdges) (x : Reading) (r : ℕ → Reading) (places : List ℕ) (d : List Float) (bins values found : List ℕ) (s q : List Float)
@@ -354,63 +343,3 @@ unfolding places_added
 places_added_law setup e o x r places d bins values found s q k m f g h =
     h
     ∙ (λ i. placed_to x r setup places ((f ∙ ap (λ (y : BuiltEdges). map (number_in true y) d) k) i) ((g ∙ ap (λ (y : Option BuiltEdges). value_numbers y (pair_values x r setup.op places) values) m) i) (length places) s)
-
--- ---- a histogram's pairs by their weights
-module _ (e : BuiltEdges) (n v : ℕ) (x : Datum) (y : Float) (same : x.weight ≡ y) (s : List Float) where
-  weight_alone : (b : ℕ) → consumed_at (ComponentSumHistogram e) (Some v) n b (weight_datum y) s ≡ consumed_at (ComponentSumHistogram e) (Some v) n b x s
-  unfolding consumed_at
-  weight_alone b = λ i. cond (has_room n (built_bins e) b (length s)) (add_in (below (built_bins e) (Some v)) n b (sym same i) s) s
-
-module _ (setup : Setup) (e : BuiltEdges) (kind : setup.reducer ≡ ComponentSumHistogram e) (x : Reading) (readings : Readings) (places bins values : List ℕ) where
-  weight_placed : (n b k : ℕ) (s : List Float)
-      → consumed_at (ComponentSumHistogram e) (Some n) setup.n_states b (weight_datum (mul binary64 x.w (at readings.w.now k))) s ≡ pair_placed setup n (numbered_pair setup x (reading_in readings k) b) s
-  unfolding numbered_pair reading_in
-  weight_placed n b k s = go (ltb b setup.n_states) refl
-    where
-      y : Datum
-      y = datum_of (op_of setup.op) x (reading_in readings k)
-
-      go : (t : Bool) → ltb b setup.n_states ≡ t → consumed_at (ComponentSumHistogram e) (Some n) setup.n_states b (weight_datum (mul binary64 x.w (at readings.w.now k))) s
-          ≡ pair_placed setup n (pair_in (cond t (Some b) None) y) s
-      go true h = weight_alone e setup.n_states n y (mul binary64 x.w (at readings.w.now k)) refl s b ∙ ap (λ (r : BuiltReducer). consumed_at r (Some n) setup.n_states b y s) (sym kind)
-      go false h = no_room (ComponentSumHistogram e) (Some n) setup.n_states b _ s (past_states setup.n_states (built_bins e) b (length s) h)
-
-  weights_placed : (q : ℕ) (s : List Float) → weights_to e setup.n_states x.w readings.w.now places bins values q s ≡ placed_to x (reading_in readings) setup places bins values q s
-  unfolding weights_to placed_to
-  weights_placed zero s = refl
-  weights_placed (suc q) s =
-      ap (λ (t : List Float). consumed_at (ComponentSumHistogram e) (Some (get_or values q 0)) setup.n_states (get_or bins q 0) (weight_datum (mul binary64 x.w (at readings.w.now (get_or places q 0)))) t) (weights_placed q s)
-      ∙ weight_placed (get_or values q 0) (get_or bins q 0) (get_or places q 0) _
-
-  pub by_weights : (s q : List Float) → q ≡ weights_to e setup.n_states x.w readings.w.now places bins values (length places) s
-      → q ≡ placed_to x (reading_in readings) setup places bins values (length places) s
-  by_weights s q h = h ∙ weights_placed (length places) s
-
-module _ (e : BuiltEdges) (n : ℕ) (w : Float) (weights : List Float) (places bins values : List ℕ) where
-  pub weights_none : (s : List Float) → s ≡ weights_to e n w weights places bins values 0 s
-  unfolding weights_to
-  weights_none s = refl
-
-  pub weights_next : (q : ℕ) (z s r : List Float) → s ≡ weights_to e n w weights places bins values q z
-      → r ≡ consumed_at (ComponentSumHistogram e) (Some (get_or values q 0)) n (get_or bins q 0) (weight_datum (mul binary64 w (at weights (get_or places q 0)))) s
-      → r ≡ weights_to e n w weights places bins values (q + 1) z
-  unfolding weights_to
-  weights_next q z s r h k = rw (add-one, ← h) k
-
--- ---- few points: the pairs of a row, one after the other
-module _ (setup : Setup) (a : points.Point) (g : ℕ → points.Point) (n : ℕ) (z : List Float) where
-  pub row_turn : (j : ℕ) (b : points.Point) (s q : List Float) → j < n → b ≡ g j → q ≡ pair_step setup (a, b) s → row_added setup a g j (n - j) s ≡ z → row_added setup a g (j + 1) (n - (j + 1)) q ≡ z
-  row_turn j b s q h e k inv =
-      let d : n - j ≡ suc (n - (j + 1)) = omega arith in
-      (rw (k, e, add-one j)) ∙ sym (row_cons setup a g j (n - (j + 1)) s) ∙ sym (ap (λ (x : ℕ). row_added setup a g j x s) d) ∙ inv
-
--- x is the distance, r the answer of `bin_of`
-pub pair_at_law : (setup : Setup) (ends : Ends) (a b : points.Point) (x : Float) (r : Option ℕ) (p : Reducer.Pair) → Tabled setup.edges ends → x ≡ squared_diff_norm a b → r ≡ ends_bin setup.edges ends x
-    → p ≡ pair_in r (datum_of (op_of setup.op) a.rd b.rd) → p ≡ built_pair setup a b
-unfolding built_pair
-pair_at_law setup ends a b x r p t e h k =
-    k ∙ ap (λ (o : Option ℕ). pair_in o (datum_of (op_of setup.op) a.rd b.rd)) (found_bin setup.edges ends (squared_diff_norm a b) r (h ∙ ap (ends_bin setup.edges ends) e) t (is_true _ (add-fits binary64 _ _)))
-
-pub one_added : (setup : Setup) (a b : points.Point) (pair : Pair) (s q : List Float) → the_pair pair ≡ built_pair setup a b → q ≡ pair_added setup (the_pair pair) s → q ≡ pair_step setup (a, b) s
-unfolding pair_step
-one_added setup a b pair s q e h = h ∙ ap (λ p. pair_added setup p s) e

@@ -13,19 +13,18 @@ use Rattle.reducer.specs.declared.Reducer.TheVariants.{ComponentSumMean, Compone
 use Rattle.reducer.specs.declared.PairOperation.TheVariants.{ElementwiseMultiply}
 use Rattle.reducer.specs.Readings.{BuiltEdges}
 use Rattle.edge_table.proofs.Examples.{list, searchable}
-use Rattle.edge_table.proofs.Lookup.{tabled}
+use Rattle.edge_table.proofs.Lookups.{tabled}
+use Rattle.edge_table.specs.declared.Lookup.{Lookup}
 use Rattle.edge_table.specs.Table.{table_of}
 use Rattle.parallel_serial.specs.declared.Setup.{Setup}
-use Rattle.unstructured.specs.declared.held.EdgeTable.{EdgeTable}
 use Rattle.unstructured.specs.declared.held.Lookups.{Lookups}
-use Rattle.unstructured.specs.declared.held.Searched.{Searched}
 use Rattle.unstructured.specs.Held.{Readable, Listed, Parts}
 
 abbrev pub edges : BuiltEdges
 edges = Irregular (record { ref_ptr = (0, 0); now = list })
 
-abbrev pub edge_table : EdgeTable
-edge_table = record { edges = edges; table = table_of edges (zero_f false); tabled = tabled edges (zero_f false) _ searchable refl }
+abbrev pub look : Lookup
+look = record { edges = edges; table = table_of edges (zero_f false); hints = record { ref_ptr = (0, 0); now = [] }; tabled = tabled edges (zero_f false) _ searchable refl }
 
 abbrev pub mean : Setup
 mean = record {
@@ -46,11 +45,8 @@ histogram = record {
   usable = record { edges_usable = searchable; values_usable = searchable; states = refl; few = omega arith; small = omega arith; limit = omega arith };
 }
 
-pub searched : Searched
-searched = record { setup = record { ref_ptr = (0, 0); now = mean }; ends = edge_table.table.ends; tabled = edge_table.tabled }
-
 pub lookups : Lookups
-lookups = record { setup = mean; edges = edge_table; hints = record { ref_ptr = (0, 0); now = [] }; values = None; value_hints = record { ref_ptr = (0, 0); now = [] }; edges_are = refl; values_are = refl }
+lookups = record { setup = mean; edges = look; values = None; edges_are = refl; values_are = refl }
 
 -- ---- two points
 abbrev pub pair : List Float

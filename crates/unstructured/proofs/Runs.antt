@@ -31,7 +31,7 @@ use Rattle.unstructured_points.specs.declared.PointSet.{PointSet}
 use Rattle.unstructured_points.specs.Readings.{points_of}
 use Rattle.unstructured_points.specs.Sets.{sets_of}
 use Rattle.unstructured.specs.declared.held.Points.{Points}
-use Rattle.unstructured.specs.Pairs.{sets_pairs, pairs_in, built_pair, pair_added, pair_step, filled, run_filled}
+use Rattle.unstructured.specs.Pairs.{sets_pairs, pairs_in, built_pair, pair_consumed, pair_step, filled, run_filled}
 
 -- ---- a run by what is built of its statement
 module _ (setup : Setup) (spec : RunSpec) (o : SetupOf spec setup) (sets : run.Sets) where
@@ -58,7 +58,7 @@ module _ (setup : Setup) (spec : RunSpec) (o : SetupOf spec setup) (sets : run.S
   used_is = λ i. sym states i * sym size i
 
   -- ---- one pair at one place
-  pair_length : (p : Pair) (s : List Float) → length (pair_added setup p s) ≡ length s
+  pair_length : (p : Pair) (s : List Float) → length (pair_consumed setup p s) ≡ length s
   pair_length dropped s = refl
   pair_length (kept b d) s = consumed_length setup.n_states b d s setup.reducer
 
@@ -76,13 +76,13 @@ module _ (setup : Setup) (spec : RunSpec) (o : SetupOf spec setup) (sets : run.S
 
   step_at : (q : points.Point × points.Point) (s : List Float) (p : ℕ) → length s ≡ used the_run → p < used the_run → at (pair_step setup q s) p ≡ add_opt (pair_at the_run p q) (at s p)
   unfolding pair_step run_of
-  step_at q s p e h = ap (λ (x : Pair). at (pair_added setup x s) p) (pair_is q) ∙ go (bin_of (edges_of spec.edges) (squared_diff_norm q.0 q.1)) refl
+  step_at q s p e h = ap (λ (x : Pair). at (pair_consumed setup x s) p) (pair_is q) ∙ go (bin_of (edges_of spec.edges) (squared_diff_norm q.0 q.1)) refl
     where
       d : Datum
       d = datum_of (op_of spec.op) q.0.rd q.1.rd
 
       go : (b : Option ℕ) → bin_of (edges_of spec.edges) (squared_diff_norm q.0 q.1) ≡ b
-          → at (pair_added setup (pair_in b d) s) p ≡ add_opt (pair_term (kind_of spec.kind) (state_at n p) (number_at n p) (pair_in b d)) (at s p)
+          → at (pair_consumed setup (pair_in b d) s) p ≡ add_opt (pair_term (kind_of spec.kind) (state_at n p) (number_at n p) (pair_in b d)) (at s p)
       go None i = refl
       go (Some b) i =
           (λ j. at (consumed (o.reducer j) (states j) b d s) p)

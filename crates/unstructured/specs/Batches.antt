@@ -1,16 +1,14 @@
 -- What the rows in batches promise: lookups by tables, the places of a batch that are within the ends.
 use Rattle.std.specs.Prelude.{Option, None, Some, List, [], ◌∷◌, ◌++◌, map, Bool, true, false, not, ℕ, zero, suc, length, get_or, Float}
-use Rattle.std.specs.Float.{binary64, nan}
-use Rattle.std.specs.Float.Ieee.{mul, of_bits}
+use Rattle.std.specs.Float.{nan}
 use Rattle.definitions.specs.Lists.{at}
 use Rattle.definitions.specs.Bins.{below}
 use Rattle.definitions.specs.Points.{Reading}
 use Rattle.definitions.specs.Reducer as Reducer
-use Rattle.definitions.specs.Reducer.{kept, dropped, pair_in, datum_of, component_sum}
+use Rattle.definitions.specs.Reducer.{pair_in, datum_of, component_sum}
 use Rattle.reducer.specs.declared.PairOperation.{PairOperation}
-use Rattle.reducer.specs.declared.Reducer.TheVariants.{ComponentSumHistogram}
 use Rattle.reducer.specs.Readings.{BuiltEdges, op_of}
-use Rattle.reducer.specs.Consume.{consumed_at}
+use Rattle.point_pairs.specs.Pairs.{pair_added}
 use Rattle.edge_table.specs.declared.Ends.{Ends}
 use Rattle.edge_table.specs.Table.{past_end}
 use Rattle.edge_batch.specs.Batch.{number_in}
@@ -44,8 +42,7 @@ numbered_pair setup x y number = pair_in (below setup.n_states (Some number)) (d
 
 -- number is that of the value's bin
 abbrev pub pair_placed : Setup → ℕ → Reducer.Pair → List Float → List Float
-pair_placed setup number (kept b d) s = consumed_at setup.reducer (Some number) setup.n_states b d s
-pair_placed setup number dropped s = s
+pair_placed setup number pair s = pair_added setup.reducer (Some number) setup.n_states pair s
 
 -- ---- a point whose reading is x is paired with places of a batch; r is the reading at a place
 module _ (x : Reading) (r : ℕ → Reading) where
@@ -64,17 +61,6 @@ abbrev pub value_numbers : Option BuiltEdges → List Float → List ℕ → Lis
 value_numbers None x found = found
 value_numbers (Some e) x found = map (number_in false e) x
 
--- a datum of which the weight alone counts
-abbrev pub weight_datum : Float → Reducer.Datum
-weight_datum w = record { c0 = of_bits binary64 0; c1 = of_bits binary64 0; c2 = of_bits binary64 0; weight = w }
-
--- the first n pairs of a histogram, of a weight with those of a batch
-unfoldable pub weights_to : BuiltEdges → ℕ → Float → List Float → List ℕ → List ℕ → List ℕ → ℕ → List Float → List Float
-weights_to e n w weights places bins values zero s = s
-weights_to e n w weights places bins values (suc q) s =
-    consumed_at (ComponentSumHistogram e) (Some (get_or values q 0)) n (get_or bins q 0) (weight_datum (mul binary64 w (at weights (get_or places q 0))))
-    (weights_to e n w weights places bins values q s)
-
 -- the pairs with places of a batch, whose distances are d and past no end
 unfoldable pub places_added : Setup → Reading → (ℕ → Reading) → List ℕ → List Float → List ℕ → List Float → List Float
 places_added setup x r places d values s =
@@ -88,9 +74,6 @@ values_in x r op = pair_values x (reading_in r) op r.places.now
 -- all listed pairs, whose bins are found
 abbrev pub found_added : Setup → Reading → Found → List Float → List Float
 found_added setup x f s = placed_to x (reading_in f.readings) setup f.readings.places.now f.bins.now f.values.now (length f.readings.places.now) s
-
-abbrev pub weights_added : BuiltEdges → ℕ → Float → Found → List Float → List Float
-weights_added e n w f s = weights_to e n w f.readings.w.now f.readings.places.now f.bins.now f.values.now (length f.readings.places.now) s
 
 abbrev pub listed_added : Setup → Reading → Readings → List Float → List ℕ → List Float → List Float
 listed_added setup x r d values s = places_added setup x (reading_in r) r.places.now d values s

@@ -1,32 +1,20 @@
 -- What the private functions promise: pairs and the loops over them, as updates of the pack.
-use Rattle.std.specs.Prelude.{Option, None, Some, List, map, ℕ, ◌+◌, ◌-◌, Float}
+use Rattle.std.specs.Prelude.{Some, List, map, ℕ, ◌+◌, ◌-◌, Float}
 use Rattle.definitions.specs.Lists.{range, upto, later_pairs, all_pairs}
 use Rattle.definitions.specs.Points as points
 use Rattle.definitions.specs.Points.{UnstructuredPoints, stride, point_at, squared_diff_norm}
 use Rattle.definitions.specs.Reducer as Reducer
 use Rattle.definitions.specs.Reducer.{kept, dropped, pair_in, datum_of}
-use Rattle.laws.proofs.Places.{fold_pack}
-use Rattle.reducer.specs.declared.Datum.{Datum}
-use Rattle.reducer.specs.Readings.{op_of, the_datum}
+use Rattle.laws.specs.Loops.{fold_pack}
+use Rattle.reducer.specs.Readings.{op_of}
 use Rattle.reducer.specs.Consume.{built_bin, consumed}
 use Rattle.parallel_serial.specs.declared.Setup.{Setup}
 use Rattle.parallel_serial.specs.declared.Sets.{Sets}
 use Rattle.parallel_serial.specs.declared.Sets.TheVariants.{Auto, Cross}
 use Rattle.unstructured_points.specs.declared.PointSet.{PointSet}
 use Rattle.unstructured_points.specs.Readings.{points_of}
-use Rattle.unstructured.specs.declared.Pair.{Pair}
-use Rattle.unstructured.specs.declared.Pair.TheVariants.{Kept, Dropped}
 use Rattle.unstructured.specs.declared.held.Points.{Points}
 use Rattle.unstructured.specs.Held.{Readable}
-
-abbrev pub the_pair : Pair → Reducer.Pair
-the_pair (Kept b c0 c1 c2 w) = kept b (record { c0 = c0; c1 = c1; c2 = c2; weight = w })
-the_pair Dropped = dropped
-
--- the pair of this bin and datum
-abbrev pub pair_kept : Option (ℕ × Datum) → Reducer.Pair
-pair_kept None = dropped
-pair_kept (Some (b, d)) = kept b (the_datum d)
 
 -- point i; shut, so that a goal shows it by its name
 unfoldable pub point_in : Points → ℕ → points.Point
@@ -63,12 +51,13 @@ module _ (setup : Setup) where
   unfoldable pub built_pair : points.Point → points.Point → Reducer.Pair
   built_pair a b = pair_in (built_bin setup.edges (squared_diff_norm a b)) (datum_of (op_of setup.op) a.rd b.rd)
 
-  abbrev pub pair_added : Reducer.Pair → List Float → List Float
-  pair_added (kept b d) s = consumed setup.reducer setup.n_states b d s
-  pair_added dropped s = s
+  -- what the pair adds, its value looked up
+  abbrev pub pair_consumed : Reducer.Pair → List Float → List Float
+  pair_consumed (kept b d) s = consumed setup.reducer setup.n_states b d s
+  pair_consumed dropped s = s
 
   unfoldable pub pair_step : points.Point × points.Point → List Float → List Float
-  pair_step q s = pair_added (built_pair q.0 q.1) s
+  pair_step q s = pair_consumed (built_pair q.0 q.1) s
 
   -- the pairs of point a with n points from k on
   unfoldable pub row_added : points.Point → (ℕ → points.Point) → ℕ → ℕ → List Float → List Float

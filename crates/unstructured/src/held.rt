@@ -3,12 +3,10 @@
 
 ghost use Rattle.std.specs.Prelude.{◌≡◌, length, option_map};
 ghost use Rattle.std.proofs.Props.{props};
-ghost use Rattle.edge_table.specs.Tabled.{Tabled, Tabled-prop};
 ghost use Rattle.unstructured.specs.Held.{Readable, Parts, Listed, value_edges};
 
-use edge_table::{Ends, Table};
+use edge_table::Lookup;
 use parallel_serial::Setup;
-use reducer::BuiltEdges;
 
 // A set of n points, whose slices hold them: component k of point i is at k times the stride plus i.
 #[derive(Clone, Copy)]
@@ -21,31 +19,12 @@ pub struct Points<'a> {
     ghost held: { Readable positions.now values.now weights.now n stride },
 }
 
-// A run and the ends of its edges, for lookups of one distance.
-#[derive(Clone, Copy)]
-pub struct Searched<'a> {
-    pub setup: &'a Setup<'a>,
-    pub ends: Ends,
-    ghost tabled: { Tabled setup.now.edges ends } by { Tabled-prop setup.now.edges ends },
-}
-
-// Edges and their table.
-#[derive(Clone, Copy)]
-pub struct EdgeTable<'a> {
-    pub edges: BuiltEdges<'a>,
-    pub table: Table,
-    ghost tabled: { Tabled edges table.ends } by { Tabled-prop edges table.ends },
-}
-
-// A run with the table of its edges and, of a histogram, of its value edges, and their hints. These are arrays, whose length is known at the lookup: as slices
-// they cost 3 to 6% with irregular edges (docs/DECISIONS.md).
+// A run with the lookup of its edges and, of a histogram, of its value edges.
 #[derive(Clone, Copy)]
 pub struct Lookups<'a> {
     pub setup: Setup<'a>,
-    pub edges: EdgeTable<'a>,
-    pub hints: &'a [u8; 4096],
-    pub values: Option<EdgeTable<'a>>,
-    pub value_hints: &'a [u8; 4096],
+    pub edges: Lookup<'a>,
+    pub values: Option<Lookup<'a>>,
     ghost edges_are: { edges.edges ≡ setup.edges } by { Prim.hlevel props },
     ghost values_are: { option_map (λ v. v.edges) values ≡ value_edges setup.reducer } by { Prim.hlevel props },
 }
@@ -79,11 +58,4 @@ pub struct Room {
     pub places: [usize; 256],
     pub bins: [usize; 256],
     pub values: [usize; 256],
-}
-
-// A run in batches, and their room.
-#[derive(Drop)]
-pub struct Batches<'a> {
-    pub look: &'a Lookups<'a>,
-    pub room: Room,
 }

@@ -4,39 +4,31 @@
 ghost use Rattle.std.specs.Prelude.{◌≡◌, ℕ, ◌+◌, ◌*◌, ◌<◌, ◌≤◌, length, get_or, take, map, option_map};
 ghost use Rattle.std.specs.Float.{nan};
 ghost use Rattle.definitions.specs.Points.{points, squared_diff_norm};
-ghost use Rattle.definitions.specs.Reducer.{pair_in, datum_of};
 ghost use Rattle.definitions.specs.Rules.{refusal, run_rules, step};
 ghost use Rattle.refusals.specs.Numbers.{number_of};
 ghost use Rattle.reducer.specs.Readings.{op_of, reading_of};
 ghost use Rattle.reducer.specs.Consume.{reducer_size};
 ghost use Rattle.reducer.specs.Usable.{Usable, UsableValues};
-ghost use Rattle.edge_batch.specs.Batch.{number_in};
+ghost use Rattle.point_pairs.specs.Pairs.{the_pair};
 ghost use Rattle.parallel_serial.specs.Drive.{zero_pack, added_scratch, run_of};
 ghost use Rattle.unstructured_points.specs.Readings.{points_of, the_point};
 ghost use Rattle.unstructured_points.specs.Sets.{sets_of};
 ghost use Rattle.unstructured.specs.Readings.{auto_run, cross_run};
 ghost use Rattle.unstructured.specs.Held.{value_edges};
-ghost use Rattle.unstructured.specs.Pairs.{the_pair, pair_kept, point_in, points_in, Held, HeldSets, sets_pairs, pairs_in, first_partner};
-ghost use Rattle.unstructured.specs.Pairs.{built_pair, pair_added, row_added, row_from, run_filled};
-ghost use Rattle.unstructured.specs.Batches.{reading_in, kept_below, picked, numbered_pair, pair_placed};
-ghost use Rattle.unstructured.specs.Batches.{values_in, found_added, weights_added, listed_added};
+ghost use Rattle.unstructured.specs.Pairs.{point_in, points_in, Held, HeldSets, sets_pairs, pairs_in, first_partner};
+ghost use Rattle.unstructured.specs.Pairs.{row_added, row_from, run_filled};
+ghost use Rattle.unstructured.specs.Batches.{reading_in, kept_below, picked, numbered_pair};
+ghost use Rattle.unstructured.specs.Batches.{values_in, found_added, listed_added};
 
 mod held;
 
-use edge_batch::Lookup;
-use edge_table::Ends;
-use held::{Batches, EdgeTable, Found, Lookups, Points, Readings, Room, Searched};
+use edge_table::{Ends, Lookup};
+use held::{Found, Lookups, Points, Readings, Room};
 use parallel_serial::{RunSpec, Sets, Setup};
-use reducer::{BinEdges, BuiltEdges, BuiltReducer, Datum, PairOperation, Reducer};
+use point_pairs::Pair;
+use reducer::{BuiltEdges, BuiltReducer, Datum, PairOperation, Reducer};
 use refusals::Refusal;
 use unstructured_points::{Point, PointSet};
-
-// What a pair yields: a bin, three component values and a weight, or nothing. Document 01 names this form.
-#[derive(Clone, Copy)]
-pub enum Pair {
-    Kept(usize, f64, f64, f64, f64),
-    Dropped,
-}
 
 // ---- pairs
 
@@ -61,31 +53,6 @@ impl Points<'_> {
     }
 }
 
-impl Pair {
-    // The pair of two points of these readings in a bin; dropped where there is none.
-    fn new(op: PairOperation, first: Datum, second: Datum, bin: Option<usize>) -> Pair
-        ensures { the_pair result ≡ pair_in bin (datum_of (op_of op) (reading_of first) (reading_of second)) }
-    {
-        match bin {
-            Some(bin) => {
-                let d = reducer::datum_of(op, first, second);
-                Pair::Kept(bin, d.c0, d.c1, d.c2, d.weight)
-            }
-            None => Pair::Dropped,
-        }
-    }
-
-    // The bin and the datum of one that is kept.
-    fn kept(self) -> Option<(usize, Datum)>
-        ensures { the_pair self ≡ pair_kept result }
-    {
-        match self {
-            Pair::Kept(bin, c0, c1, c2, weight) => Some((bin, Datum { c0, c1, c2, weight })),
-            Pair::Dropped => None,
-        }
-    }
-}
-
 // The pair of two points of these readings, whose bin has this number; dropped if that is past the bins.
 #[tactic(auto, unfolding(crate::specs::Batches::numbered_pair))]
 fn pair_of(setup: &Setup, first: Datum, second: Datum, bin: usize) -> Pair
@@ -97,69 +64,6 @@ fn pair_of(setup: &Setup, first: Datum, second: Datum, bin: usize) -> Pair
         second,
         (bin < setup.n_states).then_some(bin),
     )
-}
-
-// number is that of the value's bin, which a histogram has.
-fn add_pair(setup: &Setup, number: usize, pair: Pair, scratch: &mut [f64])
-    ensures { scratch.new ≡ pair_placed setup.now number (the_pair pair) scratch.old }
-{
-    if let Some((bin, datum)) = pair.kept() {
-        reducer::consume_at(
-            setup.reducer,
-            Some(number),
-            setup.n_states,
-            bin,
-            datum,
-            scratch,
-        );
-    }
-}
-
-// The same with the value looked up, by the reducer alone; so it is a function of its own.
-fn consume_pair(setup: &Setup, pair: Pair, scratch: &mut [f64])
-    ensures { scratch.new ≡ pair_added setup.now (the_pair pair) scratch.old }
-{
-    if let Some((bin, datum)) = pair.kept() {
-        reducer::consume(setup.reducer, setup.n_states, bin, datum, scratch);
-    }
-}
-
-// ---- all pairs of a run, by rows
-
-// A way to add the pairs of a point with those of a set from `from` on.
-trait Rows {
-    ghost use Rattle.parallel_serial.specs.declared.Setup.{Setup};
-
-    ghost setup: { Self → Setup };
-
-    fn add_row(&mut self, a: Point, set: &Points, from: usize, scratch: &mut [f64])
-        ensures row { scratch.new ≡ row_from (setup self.old) (the_point a) set.now from scratch.old }
-        ensures same { setup self.new ≡ setup self.old };
-}
-
-// Auto pairs only a later second.
-fn first_partner(sets: &Sets<Points>, i: usize) -> usize
-    requires { i < 4096 }
-    ensures { result ≡ first_partner sets.now i }
-{
-    match sets {
-        Sets::Auto(_) => i + 1,
-        Sets::Cross(_, _) => 0,
-    }
-}
-
-// All pairs of the run, first point ascending, second ascending within it.
-#[tactic(auto, using(crate::proofs::Loops::rows_start))]
-fn fill_rows<R: Rows>(rows: &mut R, sets: &Sets<Points>, scratch: &mut [f64])
-    ensures { scratch.new ≡ run_filled (R.setup rows.old) sets.now scratch.old }
-{
-    let first = sets.first();
-    let second = sets.second();
-    for i in 0..first.n {
-        let a = first.point_at(i);
-        let from = first_partner(sets, i);
-        rows.add_row(a, &second, from, &mut *scratch);
-    }
 }
 
 // ---- rows in batches: distances first, then the places within the ends of the edges, then their pairs
@@ -208,22 +112,6 @@ impl Readings<'_> {
     }
 }
 
-impl EdgeTable<'_> {
-    // The numbers of the values' bins. INSIDE: no value is past an end of the edges.
-    #[tactic(auto, using(edge_batch::proofs::Batch::found_bins))]
-    fn bins_of<const INSIDE: bool>(&self, hints: &[u8; 4096], x: &[f64], found: &mut [usize])
-        requires { length found.old ≡ length x.now }
-        ensures { found.new ≡ map (number_in INSIDE self.now.edges) x.now }
-    {
-        let look = Lookup {
-            edges: self.edges,
-            table: self.table,
-            hints: &hints[..],
-        };
-        edge_batch::bins_of::<INSIDE>(look, x, found);
-    }
-}
-
 // The values of the pairs of a point, whose reading is first, with the listed ones of a batch.
 fn pair_values(op: PairOperation, first: Datum, readings: &Readings, d: &mut [f64])
     requires { length d.old ≡ length readings.now.places.now }
@@ -244,48 +132,16 @@ fn add_pairs(setup: &Setup, first: Datum, found: &Found, scratch: &mut [f64])
     let setup = *setup;
     let found = *found;
     let readings = found.readings;
-    // By an index, here and in add_weights: three slices are read, and a zip of them is no plainer.
+    // By an index: three slices are read, and a zip of them is no plainer.
     for q in 0..readings.places.len() {
         let second = readings.reading_at(readings.places[q]);
         let pair = pair_of(&setup, first, second, found.bins[q]);
-        add_pair(&setup, found.values[q], pair, &mut *scratch);
-    }
-}
-
-// The weights of a histogram's pairs: each is the first point's times the second's. What is past the states or the values' bins has no room.
-#[tactic(auto, using(crate::proofs::Batches::weights_none, crate::proofs::Batches::weights_next))]
-fn add_weights(edges: BuiltEdges, n_states: usize, weight: f64, found: &Found, scratch: &mut [f64])
-    ensures { scratch.new ≡ weights_added edges.entry n_states weight found.now scratch.old }
-{
-    let found = *found;
-    let readings = found.readings;
-    for q in 0..readings.places.len() {
-        let datum = Datum {
-            c0: 0.0,
-            c1: 0.0,
-            c2: 0.0,
-            weight: weight * readings.w[readings.places[q]],
-        };
-        reducer::consume_at(
-            Reducer::ComponentSumHistogram(edges),
+        pair.add(
+            setup.reducer,
             Some(found.values[q]),
-            n_states,
-            found.bins[q],
-            datum,
+            setup.n_states,
             &mut *scratch,
         );
-    }
-}
-
-// The pairs of a point with the listed ones; a histogram's by their weights alone.
-fn add_found(setup: &Setup, first: Datum, found: &Found, scratch: &mut [f64])
-    ensures { scratch.new ≡ found_added setup.now (reading_of first) found.now scratch.old }
-{
-    match setup.reducer {
-        Reducer::ComponentSumHistogram(edges) => {
-            add_weights(edges, setup.n_states, first.weight, found, scratch)
-        }
-        _ => add_pairs(setup, first, found, scratch),
     }
 }
 
@@ -303,17 +159,17 @@ fn add_places(
         × (length values.old ≡ length readings.now.places.now) }
     ensures { scratch.new ≡ listed_added look.now.setup (reading_of first) readings.now d.old values.old scratch.old }
 {
-    look.edges.bins_of::<true>(look.hints, &*d, &mut *bins);
-    if let Some(edges) = look.values {
+    edge_batch::bins_of::<true>(look.edges, &*d, &mut *bins);
+    if let Some(values_look) = look.values {
         pair_values(look.setup.op, first, readings, &mut *d);
-        edges.bins_of::<false>(look.value_hints, &*d, &mut *values);
+        edge_batch::bins_of::<false>(values_look, &*d, &mut *values);
     }
     let found = Found {
         readings: *readings,
         bins: &*bins,
         values: &*values,
     };
-    add_found(&look.setup, first, &found, scratch);
+    add_pairs(&look.setup, first, &found, scratch);
 }
 
 // The pairs of a with m points from j on.
@@ -355,18 +211,50 @@ fn add_batch(
     );
 }
 
-impl Rows for Batches<'_> {
-    ghost setup = { λ rows. rows.look.now.setup };
+// The pairs of a with a set's points from j on.
+// A `while`: a `for` would need the number of batches and each one's first point by a product, which is no plainer.
+fn add_row(
+    look: &Lookups,
+    a: Point,
+    set: &Points,
+    from: usize,
+    room: &mut Room,
+    scratch: &mut [f64],
+)
+    ensures { scratch.new ≡ row_from look.now.setup (the_point a) set.now from scratch.old }
+{
+    let mut j = from;
+    while j < set.n {
+        let m = (set.n - j).min(256);
+        add_batch(look, a, set, j, m, &mut *room, &mut *scratch);
+        j += m;
+    }
+}
 
-    // A `while`: a `for` would need the number of batches and each one's first point by a product, which is no plainer.
-    fn add_row(&mut self, a: Point, set: &Points, from: usize, scratch: &mut [f64]) {
-        let look = self.look;
-        let mut j = from;
-        while j < set.n {
-            let m = (set.n - j).min(256);
-            add_batch(look, a, set, j, m, &mut self.room, &mut *scratch);
-            j += m;
-        }
+// ---- all pairs of a run
+
+// Auto pairs only a later second.
+fn first_partner(sets: &Sets<Points>, i: usize) -> usize
+    requires { i < 4096 }
+    ensures { result ≡ first_partner sets.now i }
+{
+    match sets {
+        Sets::Auto(_) => i + 1,
+        Sets::Cross(_, _) => 0,
+    }
+}
+
+// First point ascending, second ascending within it.
+#[tactic(auto, using(crate::proofs::Loops::rows_start))]
+fn fill_rows(look: &Lookups, sets: &Sets<Points>, room: &mut Room, scratch: &mut [f64])
+    ensures { scratch.new ≡ run_filled look.now.setup sets.now scratch.old }
+{
+    let first = sets.first();
+    let second = sets.second();
+    for i in 0..first.n {
+        let a = first.point_at(i);
+        let from = first_partner(sets, i);
+        add_row(look, a, &second, from, &mut *room, &mut *scratch);
     }
 }
 
@@ -375,106 +263,32 @@ fn hint_span(n: usize) -> f64 {
     if n < 160 { 510.0 } else { 4093.0 }
 }
 
-// The edges' table; its hints are filled.
-fn fill_table<'a>(edges: BuiltEdges<'a>, span: f64, hints: &mut [u8; 4096]) -> EdgeTable<'a>
+// The lookup of edges; the hints are its room.
+fn lookup_of<'a>(edges: BuiltEdges<'a>, span: f64, hints: &'a mut [u8; 4096]) -> Lookup<'a>
     requires { Usable edges }
     ensures { result.edges ≡ edges.entry }
 {
     let table = edge_table::table_of(edges, span);
-    edge_table::fill_hints(edges, table, hints);
-    EdgeTable { edges, table }
+    edge_table::fill_hints(edges, table, &mut *hints);
+    Lookup {
+        edges,
+        table,
+        hints: &*hints,
+    }
 }
 
 // Of value edges, which a mean has not.
-fn fill_values<'a>(
+fn values_of<'a>(
     reducer: BuiltReducer<'a>,
     span: f64,
-    hints: &mut [u8; 4096],
-) -> Option<EdgeTable<'a>>
+    hints: &'a mut [u8; 4096],
+) -> Option<Lookup<'a>>
     requires { UsableValues reducer }
     ensures { option_map (λ t. t.edges) result ≡ value_edges reducer.entry }
 {
     match reducer {
-        Reducer::ComponentSumHistogram(edges) => Some(fill_table(edges, span, hints)),
+        Reducer::ComponentSumHistogram(edges) => Some(lookup_of(edges, span, hints)),
         _ => None,
-    }
-}
-
-// Many second points: the tables, the hints and the room, then all pairs.
-fn fill_many(setup: &Setup, sets: &Sets<Points>, scratch: &mut [f64])
-    ensures { scratch.new ≡ run_filled setup.now sets.now scratch.old }
-{
-    let span = hint_span(sets.second().n);
-    let mut hints = [0u8; 4096];
-    let edges = fill_table(setup.edges, span, &mut hints);
-    let mut value_hints = [0u8; 4096];
-    let values = fill_values(setup.reducer, span, &mut value_hints);
-    let look = Lookups {
-        setup: *setup,
-        edges,
-        hints: &hints,
-        values,
-        value_hints: &value_hints,
-    };
-    let mut batches = Batches {
-        look: &look,
-        room: Room {
-            d: [0.0; 256],
-            places: [0; 256],
-            bins: [0; 256],
-            values: [0; 256],
-        },
-    };
-    fill_rows(&mut batches, sets, scratch);
-}
-
-// ---- few second points: no hints, no room
-
-impl Searched<'_> {
-    // The pair of a and b; dropped where its distance has no bin.
-    #[tactic(auto, using(crate::proofs::Batches::pair_at_law))]
-    fn pair_found(&self, a: Point, b: Point) -> Pair
-        ensures { the_pair result ≡ built_pair self.now.setup.now (the_point a) (the_point b) }
-    {
-        let distance = unstructured_points::squared_diff_norm(a, b);
-        let bin = edge_table::bin_of(self.setup.edges, self.ends, distance);
-        Pair::new(self.setup.op, a.rd, b.rd, bin)
-    }
-}
-
-impl Rows for Searched<'_> {
-    ghost setup = { λ rows. rows.setup.now };
-
-    fn add_row(&mut self, a: Point, set: &Points, from: usize, scratch: &mut [f64]) {
-        for j in from..set.n {
-            let b = set.point_at(j);
-            let pair = self.pair_found(a, b);
-            consume_pair(self.setup, pair, &mut *scratch);
-        }
-    }
-}
-
-// Few second points: the ends of the edges, then all pairs.
-fn fill_few(setup: &Setup, sets: &Sets<Points>, scratch: &mut [f64])
-    ensures { scratch.new ≡ run_filled setup.now sets.now scratch.old }
-{
-    let mut searched = Searched {
-        setup,
-        ends: edge_table::ends_of(setup.edges),
-    };
-    fill_rows(&mut searched, sets, scratch);
-}
-
-// Few second points: hints would not pay. To make them takes 0.2 µs for 32 bins and 1.1 µs for 256, as long as some 30 and 95 lookups by the search.
-fn few_points(edges: BuiltEdges, n_states: usize, n: usize) -> bool {
-    match edges {
-        BinEdges::Regular(_) => n < 20,
-        BinEdges::Irregular(_) => {
-            if n_states < 65 {
-                return n < 10;
-            }
-            n < 14
-        }
     }
 }
 
@@ -482,40 +296,34 @@ fn few_points(edges: BuiltEdges, n_states: usize, n: usize) -> bool {
 fn fill(setup: &Setup, sets: &Sets<Points>, scratch: &mut [f64])
     ensures { scratch.new ≡ run_filled setup.now sets.now scratch.old }
 {
-    if few_points(setup.edges, setup.n_states, sets.second().n) {
-        fill_few(setup, sets, scratch)
-    } else {
-        fill_many(setup, sets, scratch)
-    }
+    let span = hint_span(sets.second().n);
+    let mut hints = [0u8; 4096];
+    let mut value_hints = [0u8; 4096];
+    let look = Lookups {
+        setup: *setup,
+        edges: lookup_of(setup.edges, span, &mut hints),
+        values: values_of(setup.reducer, span, &mut value_hints),
+    };
+    let mut room = Room {
+        d: [0.0; 256],
+        places: [0; 256],
+        bins: [0; 256],
+        values: [0; 256],
+    };
+    fill_rows(&look, sets, &mut room, scratch);
 }
 
 // ---- runs
 
-// The run, in a scratch of N numbers, of which it takes `used`; they are then added to the caller's pack.
-fn run_in<const N: usize>(setup: &Setup, sets: &Sets<Points>, used: usize, pack: &mut [f64])
-    requires used_bound { used ≤ N }
-    requires n_bound { N ≤ 4096 }
-    ensures { pack.new ≡ added_scratch pack.old (run_filled setup.now sets.now (take used zero_pack)) }
-{
-    let mut zeros = floats::zeros::<N>();
-    let scratch = &mut zeros[..used];
-    fill(setup, sets, &mut *scratch);
-    parallel_serial::add_scratch(scratch, pack);
-}
-
-// An accepted run, its scratch as large as it must be. `drive`, `run` and the scratch have their like in twopoint_cartesian, over other types:
-// a trait for both, with its law, would be longer than they are.
+// An accepted run: the used prefix of a scratch pack, added to the caller's.
+// `drive` and `run` have their like in twopoint_cartesian, over other types: a trait for both, with its law, would be longer than they are.
 fn drive(setup: &Setup, sets: &Sets<Points>, pack: &mut [f64])
     ensures { pack.new ≡ added_scratch pack.old (run_filled setup.now sets.now (take (setup.now.n_states * reducer_size setup.now.reducer) zero_pack)) }
 {
-    let used = setup.n_states * setup.reducer.state_size();
-    if used <= 64 {
-        run_in::<64>(setup, sets, used, pack)
-    } else if used <= 512 {
-        run_in::<512>(setup, sets, used, pack)
-    } else {
-        run_in::<4096>(setup, sets, used, pack)
-    }
+    let mut zeros = [0.0; 4096];
+    let scratch = &mut zeros[..setup.n_states * setup.reducer.state_size()];
+    fill(setup, sets, &mut *scratch);
+    parallel_serial::add_scratch(scratch, pack);
 }
 
 // An accepted set.

@@ -11,7 +11,7 @@ loop-q-preserved c = let x = c.args in
     let f = x.found.now in
     let t = c.loop-q in
     placed_next x.setup.now (reading_of x.first) (reading_in f.readings) f.readings.places.now f.bins.now f.values.now t.q _ c.pair_of-pair.result x.scratch.now t.scratch _ t.invariant
-    c.reading_at-second.ensures c.pair_of-pair.ensures c.add_pair.ensures
+    c.reading_at-second.ensures c.pair_of-pair.ensures c.add.ensures
 
 pub returns : goal.returns
 returns c = let t = c.loop-q in

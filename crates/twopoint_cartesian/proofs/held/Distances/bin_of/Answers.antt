@@ -1,4 +1,4 @@
-use Rattle.edge_table.proofs.Lookup.{found_bin}
+use Rattle.edge_table.proofs.Lookups.{found_bin}
 use mathlib.Core.Path.{◌∙◌, ap}
 use Rattle.reducer.specs.Consume.{built_bin}
 use Rattle.twopoint_cartesian.proofs.held.Distances.bin_of.Goals as goal

@@ -1,0 +1,2 @@
+-- What this crate's contracts cite besides the definitions.
+pub mod Pairs
