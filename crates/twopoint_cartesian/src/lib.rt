@@ -551,7 +551,12 @@ impl<'a> Histograms<'a> {
 }
 
 // A histogram's walk: the lookup of its values and all room are made here.
-fn fill_histogram(distances: Distances, edges: BuiltEdges, all: Overlaps, scratch: &mut [f64])
+fn fill_histogram<'a>(
+    distances: Distances<'a>,
+    edges: BuiltEdges<'a>,
+    all: Overlaps<'a>,
+    scratch: &mut [f64],
+)
     requires kind { distances.setup.reducer ≡ ComponentSumHistogram edges }
     requires used { distances.setup.n_states * built_bins edges ≤ length scratch.old }
     ensures { scratch.new ≡ overlaps_added distances.entry.setup (width_of distances.entry.width) (built_bins edges.entry) (overlaps_left all.entry) scratch.old }
