@@ -1,8 +1,9 @@
 // What the runs share of drive_reduce: what a caller states, what is built of it, the scratch pack and its addition to the caller's.
 #![tactic(auto)]
 
-ghost use Rattle.std.specs.Prelude.{◌≡◌};
-ghost use Rattle.parallel_serial.specs.Drive.{added_scratch};
+ghost use Rattle.std.specs.Prelude.{◌≡◌, ◌*◌, ◌≤◌, length, take};
+ghost use Rattle.parallel_serial.specs.Drive.{zero_pack, added_scratch};
+ghost use Rattle.reducer.specs.Consume.{reducer_size};
 ghost use Rattle.parallel_serial.specs.Sets.{first_of, second_of};
 ghost use Rattle.parallel_serial.specs.Usable.{UsableRun, UsableRun-prop};
 
@@ -77,4 +78,28 @@ pub fn add_scratch(scratch: &[f64], pack: &mut [f64])
             pack[i] = pack[i] + *x;
         }
     }
+}
+
+// ---- a run
+
+// What a run adds up: its pairs, into a scratch pack.
+pub trait ReductionSpec {
+    ghost use Rattle.std.specs.Prelude.{List, Float};
+    ghost use Rattle.parallel_serial.specs.declared.Setup.{Setup};
+
+    ghost contributed: { Self → Setup → List Float → List Float };
+
+    fn add_contributions(&self, setup: &Setup, scratch: &mut [f64])
+        requires { setup.now.n_states * reducer_size setup.now.reducer ≤ length scratch.old }
+        ensures { scratch.new ≡ contributed self.now setup.now scratch.old };
+}
+
+// An accepted run: the used prefix of a scratch pack, added to the caller's pack.
+pub fn drive_reduce<R: ReductionSpec>(run: &R, setup: &Setup, pack: &mut [f64])
+    ensures { pack.new ≡ added_scratch pack.old (R.contributed run.now setup.now (take (setup.now.n_states * reducer_size setup.now.reducer) zero_pack)) }
+{
+    let mut zeros = [0.0; 4096];
+    let scratch = &mut zeros[..setup.n_states * setup.reducer.state_size()];
+    run.add_contributions(setup, &mut *scratch);
+    add_scratch(scratch, pack);
 }

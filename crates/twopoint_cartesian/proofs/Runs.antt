@@ -59,11 +59,6 @@ module _ (n m : ℕ) (z : List Float) (h : n ≤ m) (k : m ≤ 4096) (e : z ≡ 
   small_lent = sym (length-take-le n z small_part)
 
 -- ---- scratch, by the overlaps of the run
--- scratch t after the walk from z, which is then added
-pub from_zeros : (setup : Setup) (width : blocks.CellWidth) (size : ℕ) (l : List Displaced) (s z y t q : List Float) → z ≡ y → t ≡ overlaps_added setup width size l z → q ≡ added_scratch s t
-    → q ≡ added_scratch s (overlaps_added setup width size l y)
-from_zeros setup width size l s z y t q e f h = h ∙ ap (added_scratch s) (f ∙ ap (overlaps_added setup width size l) e)
-
 -- a pack to which the scratch of two blocks is added is merged
 module _ (spec : RunSpec) (setup : Setup) (o : SetupOf spec setup) (sets : run.Sets) (s : List Float) (k : Accepted sets spec (length s)) where
   abbrev n : ℕ

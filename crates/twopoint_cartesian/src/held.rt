@@ -6,11 +6,11 @@ ghost use Rattle.std.proofs.Props.{props};
 ghost use Rattle.reducer.specs.declared.Reducer.TheVariants.{ComponentSumHistogram};
 ghost use Rattle.edge_table.specs.Tabled.{Tabled, Tabled-prop};
 ghost use Rattle.idx_3d_offset.specs.Walk.{offsets_left};
-ghost use Rattle.twopoint_cartesian.specs.Held.{fields_of, RowFits, PlaneFits, BlockFits, Reached, AllReached, is_mean};
+ghost use Rattle.twopoint_cartesian.specs.Held.{fields_of, RowFits, PlaneFits, BlockFits, Reached, AllReached, AllReady, is_mean};
 
 use edge_table::{Ends, Lookup};
 use idx_3d_offset::{Idx3DOffset, Offsets};
-use parallel_serial::Setup;
+use parallel_serial::{Sets, Setup};
 use spatial::{Block, CellWidth};
 
 // The two numbers of a mean's state.
@@ -97,6 +97,14 @@ pub struct Overlaps<'a> {
     pub b: Block<'a>,
     pub offsets: Offsets,
     ghost reached: { AllReached a b (offsets_left offsets) },
+}
+
+// What a run over blocks pairs, and the widths of its cells.
+#[derive(Clone, Copy)]
+pub struct CellPairs<'a> {
+    pub sets: Sets<Block<'a>>,
+    pub width: CellWidth,
+    ghost ready: { AllReady sets },
 }
 
 // What the bin of an overlap's distance is looked up with.

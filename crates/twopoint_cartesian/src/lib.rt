@@ -24,11 +24,11 @@ mod held;
 
 use edge_table::Lookup;
 use held::{
-    Distances, Fields, Histograms, Mean, Means, Overlap, Overlaps, PairBlock, PairPlane, PairRow,
+    CellPairs, Distances, Fields, Histograms, Mean, Means, Overlap, Overlaps, PairBlock, PairPlane, PairRow,
     Planes, Room, Rows,
 };
 use idx_3d_offset::{Axes, Idx3DOffset, Offsets};
-use parallel_serial::{RunSpec, Sets, Setup};
+use parallel_serial::{ReductionSpec, RunSpec, Sets, Setup};
 use reducer::{Bins, BuiltEdges, BuiltReducer, Datum, Reducer};
 use refusals::Refusal;
 use spatial::{Block, CellWidth};
@@ -579,28 +579,22 @@ fn fill_histogram<'a>(
 
 // ---- runs
 
-// All pairs of the run into scratch.
-fn fill(setup: Setup, width: CellWidth, all: Overlaps, scratch: &mut [f64])
-    requires { setup.n_states * reducer_size setup.reducer ≤ length scratch.old }
-    ensures { scratch.new ≡ overlaps_added setup.entry (width_of width) (reducer_size setup.entry.reducer) (overlaps_left all.entry) scratch.old }
-{
-    let ends = edge_table::ends_of(setup.edges);
-    let distances = Distances { setup, ends, width };
-    match setup.reducer {
-        Reducer::ComponentSumHistogram(edges) => fill_histogram(distances, edges, all, scratch),
-        _ => Means { distances }.fill(all, scratch),
-    }
-}
+// The pairs of a run's cells, offset by offset.
+impl ReductionSpec for CellPairs<'_> {
+    ghost contributed = { λ run setup s. overlaps_added setup (width_of run.width) (reducer_size setup.reducer) (seq_of run.sets) s };
 
-// An accepted run: the used prefix of a scratch pack, added to the caller's. `drive` and `run` have their like in unstructured, which says why they are two.
-fn drive(setup: Setup, width: CellWidth, all: Overlaps, pack: &mut [f64])
-    ensures { pack.new ≡ added_scratch pack.old (overlaps_added setup.entry (width_of width) (reducer_size setup.entry.reducer)
-        (overlaps_left all.entry) (take (setup.entry.n_states * reducer_size setup.entry.reducer) zero_pack)) }
-{
-    let mut zeros = [0.0; 4096];
-    let scratch = &mut zeros[..setup.n_states * setup.reducer.state_size()];
-    fill(setup, width, all, &mut *scratch);
-    parallel_serial::add_scratch(scratch, pack);
+    fn add_contributions(&self, setup: &Setup, scratch: &mut [f64]) {
+        let distances = Distances {
+            setup: *setup,
+            ends: edge_table::ends_of(setup.edges),
+            width: self.width,
+        };
+        let all = overlaps(self.sets);
+        match setup.reducer {
+            Reducer::ComponentSumHistogram(edges) => fill_histogram(distances, edges, all, scratch),
+            _ => Means { distances }.fill(all, scratch),
+        }
+    }
 }
 
 fn run(sets: Sets<Block>, width: CellWidth, spec: RunSpec, pack: &mut [f64]) -> Result<(), Refusal>
@@ -608,7 +602,7 @@ fn run(sets: Sets<Block>, width: CellWidth, spec: RunSpec, pack: &mut [f64]) -> 
     ensures pack_after { pack.new ≡ step (run_of (sets_of sets.entry (width_of width)) spec.entry) pack.old }
 {
     let setup = spatial::run_setup(sets, width, spec, pack.len())?;
-    drive(setup, width, overlaps(sets), pack);
+    parallel_serial::drive_reduce(&CellPairs { sets, width }, &setup, pack);
     Ok(())
 }
 

@@ -122,13 +122,6 @@ driven setup spec sets held s q o d same h =
     ∙ added_merged r s _ (filled_length setup spec o (sets_of sets) (sets_pairs sets) _ ∙ length-replicate m (zero_f false)) d.within
     (λ p l. filled_at setup spec o (sets_of sets) (sets_pairs sets) p l ∙ sym (scratch_is r sets p refl))
 
-pub from_zeros : (setup : Setup) (sets : Sets Points) (s q t u : List Float) → t ≡ u → q ≡ added_scratch s (run_filled setup sets t) → q ≡ added_scratch s (run_filled setup sets u)
-from_zeros setup sets s q t u e h = h ∙ ap (λ (z : List Float). added_scratch s (run_filled setup sets z)) e
-
--- scratch after the loops, then added
-pub added_filled : (s t u q : List Float) → t ≡ u → q ≡ added_scratch s t → q ≡ added_scratch s u
-added_filled s t u q e h = h ∙ ap (added_scratch s) e
-
 -- the points of a set whose stride is k
 pub held_points : (set : PointSet) (k : ℕ) → k ≡ stride_or set.n_points set.stride
     → map (λ i. points.point_at (record { count = i; stated = Some k; positions = set.positions.now; values = set.values.now; weights = set.weights.now }) i) (upto set.n_points)

@@ -6,7 +6,7 @@ ghost use Rattle.std.proofs.Props.{props};
 ghost use Rattle.unstructured.specs.Held.{Readable, Parts, Listed, value_edges};
 
 use edge_table::Lookup;
-use parallel_serial::Setup;
+use parallel_serial::{Sets, Setup};
 
 // A set of n points, whose slices hold them: component k of point i is at k times the stride plus i.
 #[derive(Clone, Copy)]
@@ -17,6 +17,12 @@ pub struct Points<'a> {
     pub stride: usize,
     pub n: usize,
     ghost held: { Readable positions.now values.now weights.now n stride },
+}
+
+// What a run over points pairs.
+#[derive(Clone, Copy)]
+pub struct PointPairs<'a> {
+    pub sets: Sets<Points<'a>>,
 }
 
 // A run with the lookup of its edges and, of a histogram, of its value edges.

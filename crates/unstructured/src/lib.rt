@@ -23,8 +23,8 @@ ghost use Rattle.unstructured.specs.Batches.{values_in, found_added, listed_adde
 mod held;
 
 use edge_table::{Ends, Lookup};
-use held::{Found, Lookups, Points, Readings, Room};
-use parallel_serial::{RunSpec, Sets, Setup};
+use held::{Found, Lookups, PointPairs, Points, Readings, Room};
+use parallel_serial::{ReductionSpec, RunSpec, Sets, Setup};
 use point_pairs::Pair;
 use reducer::{BuiltEdges, BuiltReducer, Datum, PairOperation, Reducer};
 use refusals::Refusal;
@@ -292,39 +292,31 @@ fn values_of<'a>(
     }
 }
 
-// All pairs of the run into scratch.
-fn fill(setup: &Setup, sets: &Sets<Points>, scratch: &mut [f64])
-    ensures { scratch.new ≡ run_filled setup.now sets.now scratch.old }
-{
-    let span = hint_span(sets.second().n);
-    let mut hints = [0u8; 4096];
-    let mut value_hints = [0u8; 4096];
-    let look = Lookups {
-        setup: *setup,
-        edges: lookup_of(setup.edges, span, &mut hints),
-        values: values_of(setup.reducer, span, &mut value_hints),
-    };
-    let mut room = Room {
-        d: [0.0; 256],
-        places: [0; 256],
-        bins: [0; 256],
-        values: [0; 256],
-    };
-    fill_rows(&look, sets, &mut room, scratch);
+// The pairs of a run's points.
+impl ReductionSpec for PointPairs<'_> {
+    ghost contributed = { λ run setup s. run_filled setup run.sets s };
+
+    // All pairs, by lookups that are made here.
+    fn add_contributions(&self, setup: &Setup, scratch: &mut [f64]) {
+        let span = hint_span(self.sets.second().n);
+        let mut hints = [0u8; 4096];
+        let mut value_hints = [0u8; 4096];
+        let look = Lookups {
+            setup: *setup,
+            edges: lookup_of(setup.edges, span, &mut hints),
+            values: values_of(setup.reducer, span, &mut value_hints),
+        };
+        let mut room = Room {
+            d: [0.0; 256],
+            places: [0; 256],
+            bins: [0; 256],
+            values: [0; 256],
+        };
+        fill_rows(&look, &self.sets, &mut room, scratch);
+    }
 }
 
 // ---- runs
-
-// An accepted run: the used prefix of a scratch pack, added to the caller's.
-// `drive` and `run` have their like in twopoint_cartesian, over other types: a trait for both, with its law, would be longer than they are.
-fn drive(setup: &Setup, sets: &Sets<Points>, pack: &mut [f64])
-    ensures { pack.new ≡ added_scratch pack.old (run_filled setup.now sets.now (take (setup.now.n_states * reducer_size setup.now.reducer) zero_pack)) }
-{
-    let mut zeros = [0.0; 4096];
-    let scratch = &mut zeros[..setup.n_states * setup.reducer.state_size()];
-    fill(setup, sets, &mut *scratch);
-    parallel_serial::add_scratch(scratch, pack);
-}
 
 // An accepted set.
 #[tactic(auto, using(crate::proofs::Runs::held_points), unfolding(crate::specs::Pairs::points_in, crate::specs::Pairs::point_in))]
@@ -358,8 +350,10 @@ fn run(sets: Sets<PointSet>, spec: RunSpec, pack: &mut [f64]) -> Result<(), Refu
     ensures pack_after { pack.new ≡ step (run_of (sets_of sets.entry) spec.entry) pack.old }
 {
     let setup = unstructured_points::run_setup(sets, spec, pack.len())?;
-    let held = held_sets(sets);
-    drive(&setup, &held, pack);
+    let run = PointPairs {
+        sets: held_sets(sets),
+    };
+    parallel_serial::drive_reduce(&run, &setup, pack);
     Ok(())
 }
 
