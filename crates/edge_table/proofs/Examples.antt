@@ -1,4 +1,4 @@
--- What `found_bin` asks of edges can be met: 0.0 and 1.0, and their table for 510 places of hints.
+-- What `found_bin` asks of edges can be met: 0.0 and 1.0, and their table.
 use mathlib.Core.Path.{refl}
 use mathlib.Core.List.{List, [], ◌∷◌}
 use Prim.Native.Nat.{ℕ, zero, suc}
@@ -31,8 +31,8 @@ pub edges : BuiltEdges
 edges = Irregular (record { ref_ptr = (0, 0); now = list })
 
 pub table : Table
-table = table_of edges (of_bits binary64 0x407f_e000_0000_0000)
+table = table_of edges
 
 pub usable : Tabled edges table.ends
 unfolding table edges
-usable = tabled edges (of_bits binary64 0x407f_e000_0000_0000) _ searchable refl
+usable = tabled edges _ searchable refl

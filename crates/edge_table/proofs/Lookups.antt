@@ -203,9 +203,9 @@ found_bin edges ends x o e t f = e ∙ ends_bin_law edges ends x t f
 pub tabled_ends : (edges : BuiltEdges) (ends : Ends) → Usable edges → ends ≡ ends_of edges → Tabled edges ends
 tabled_ends edges ends u e = record { usable = u; ends = e }
 
-pub tabled : (edges : BuiltEdges) (span : Float) (table : Table) → Usable edges → table ≡ table_of edges span → Tabled edges table.ends
-tabled edges span table u e = tabled_ends edges table.ends u (ap (λ (t : Table). t.ends) e ∙ go edges)
+pub tabled : (edges : BuiltEdges) (table : Table) → Usable edges → table ≡ table_of edges → Tabled edges table.ends
+tabled edges table u e = tabled_ends edges table.ends u (ap (λ (t : Table). t.ends) e ∙ go edges)
   where
-    go : (edges : BuiltEdges) → (table_of edges span).ends ≡ ends_of edges
+    go : (edges : BuiltEdges) → (table_of edges).ends ≡ ends_of edges
     go (Regular e) = refl
     go (Irregular list) = refl

@@ -29,12 +29,12 @@ unfoldable pub outside_of : Ends → Float → Bool
 outside_of ends x = is_nan x || lt x ends.first || le ends.last x
 
 -- ---- tables
--- span is how many places of hints the edges take, the first value's after 2^52
-abbrev pub table_of : BuiltEdges → Float → Table
-table_of (Regular e) span = record { ends = ends_of (Regular e); scale = of_bits binary64 0; offset = of_bits binary64 0 }
-table_of (Irregular list) span =
+-- irregular edges take 4,093 places of hints, the first value's after 2^52
+abbrev pub table_of : BuiltEdges → Table
+table_of (Regular e) = record { ends = ends_of (Regular e); scale = of_bits binary64 0; offset = of_bits binary64 0 }
+table_of (Irregular list) =
     let ends = ends_of (Irregular list) in
-    let scale = div binary64 span (sub binary64 ends.last ends.first) in record { ends = ends; scale = scale; offset = sub binary64 (of_bits binary64 0x4330_0000_0000_0001) (mul binary64 ends.first scale) }
+    let scale = div binary64 (of_bits binary64 0x40af_fa00_0000_0000) (sub binary64 ends.last ends.first) in record { ends = ends; scale = scale; offset = sub binary64 (of_bits binary64 0x4330_0000_0000_0001) (mul binary64 ends.first scale) }
 
 -- ---- hints
 -- a place of hints: with 2^52 in the offset the sum is rounded to a whole number, which the low bits then hold

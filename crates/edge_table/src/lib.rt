@@ -79,9 +79,9 @@ pub fn ends_of(edges: BuiltEdges) -> Ends
     }
 }
 
-// span is how many places of hints the edges take. Regular ones take none: their zeros are what this function has always promised.
-pub fn table_of(edges: BuiltEdges, span: f64) -> Table
-    ensures { result ≡ table_of edges.entry span }
+// Irregular edges take 4,093 places of hints. Regular ones take none: their zeros are what this function has always promised.
+pub fn table_of(edges: BuiltEdges) -> Table
+    ensures { result ≡ table_of edges.entry }
 {
     let ends = ends_of(edges);
     match edges {
@@ -91,7 +91,7 @@ pub fn table_of(edges: BuiltEdges, span: f64) -> Table
             offset: 0.0,
         },
         BinEdges::Irregular(_) => {
-            let scale = span / (ends.last - ends.first);
+            let scale = 4093.0 / (ends.last - ends.first);
             Table {
                 ends,
                 scale,

@@ -4,7 +4,7 @@
 ghost use Rattle.std.specs.Prelude.{◌≡◌};
 ghost use Rattle.definitions.specs.Reducer.{pair_in, datum_of};
 ghost use Rattle.reducer.specs.Readings.{op_of, reading_of};
-ghost use Rattle.point_pairs.specs.Pairs.{the_pair, pair_added};
+ghost use Rattle.point_pairs.specs.Pairs.{the_pair, pair_value_bin, pair_added};
 
 use reducer::{BuiltReducer, Datum, PairOperation};
 
@@ -26,6 +26,18 @@ impl Pair {
                 Pair::Kept(bin, d.c0, d.c1, d.c2, d.weight)
             }
             None => Pair::Dropped,
+        }
+    }
+
+    // The bin of its value in a histogram; a mean and a dropped pair have none.
+    pub fn value_bin(self, reducer: BuiltReducer) -> Option<usize>
+        ensures { result ≡ pair_value_bin reducer.entry (the_pair self) }
+    {
+        match self {
+            Pair::Kept(_, c0, c1, c2, weight) => {
+                reducer::value_bin(reducer, Datum { c0, c1, c2, weight })
+            }
+            Pair::Dropped => None,
         }
     }
 

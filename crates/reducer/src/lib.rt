@@ -242,7 +242,8 @@ pub fn consume_at(
     }
 }
 
-fn value_bin(reducer: BuiltReducer, datum: Datum) -> Option<usize>
+// The bin of the datum's value in a histogram; a mean needs none.
+pub fn value_bin(reducer: BuiltReducer, datum: Datum) -> Option<usize>
     ensures { result ≡ value_bin reducer.entry (the_datum datum) }
 {
     match reducer {
@@ -250,12 +251,4 @@ fn value_bin(reducer: BuiltReducer, datum: Datum) -> Option<usize>
         Reducer::ComponentSumMean => None,
         Reducer::ComponentSumHistogram(edges) => { bin_of(edges, component_sum(datum)) }
     }
-}
-
-// The datum is added to state s of a pack of n_states states; nothing where there is no room.
-pub fn consume(reducer: BuiltReducer, n_states: usize, s: usize, datum: Datum, pack: &mut [f64])
-    ensures { pack.new ≡ consumed reducer.entry n_states s (the_datum datum) pack.old }
-{
-    let found = value_bin(reducer, datum);
-    consume_at(reducer, found, n_states, s, datum, pack);
 }

@@ -561,7 +561,7 @@ fn fill_histogram<'a>(
     requires used { distances.setup.n_states * built_bins edges ≤ length scratch.old }
     ensures { scratch.new ≡ overlaps_added distances.entry.setup (width_of distances.entry.width) (built_bins edges.entry) (overlaps_left all.entry) scratch.old }
 {
-    let table = edge_table::table_of(edges, 4093.0);
+    let table = edge_table::table_of(edges);
     let mut hints = [0u8; 4096];
     edge_table::fill_hints(edges, table, &mut hints);
     let values = Lookup {

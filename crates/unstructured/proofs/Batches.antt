@@ -38,7 +38,7 @@ use Rattle.edge_batch.specs.Batch.{number_or, number_in}
 use Rattle.edge_batch.proofs.Batch.{index_in, index_number, index_bin, inside_bin}
 use Rattle.parallel_serial.specs.declared.Setup.{Setup}
 use Rattle.point_pairs.specs.declared.Pair.{Pair}
-use Rattle.point_pairs.specs.Pairs.{the_pair}
+use Rattle.point_pairs.specs.Pairs.{the_pair, pair_value_bin, pair_added}
 use Rattle.unstructured.specs.declared.held.Points.{Points}
 use Rattle.unstructured.specs.declared.held.Readings.{Readings}
 use Rattle.unstructured.specs.Held.{Listed, Parts, value_edges}
@@ -343,3 +343,29 @@ unfolding places_added
 places_added_law setup e o x r places d bins values found s q k m f g h =
     h
     ∙ (λ i. placed_to x r setup places ((f ∙ ap (λ (y : BuiltEdges). map (number_in true y) d) k) i) ((g ∙ ap (λ (y : Option BuiltEdges). value_numbers y (pair_values x r setup.op places) values) m) i) (length places) s)
+
+-- ---- few points: the pairs of a row, one after the other
+module _ (setup : Setup) (a : points.Point) (g : ℕ → points.Point) (n : ℕ) (z : List Float) where
+  pub row_turn : (j : ℕ) (b : points.Point) (s q : List Float) → j < n → b ≡ g j → q ≡ pair_step setup (a, b) s → row_added setup a g j (n - j) s ≡ z → row_added setup a g (j + 1) (n - (j + 1)) q ≡ z
+  row_turn j b s q h e k inv =
+      let d : n - j ≡ suc (n - (j + 1)) = omega arith in
+      (rw (k, e, add-one j)) ∙ sym (row_cons setup a g j (n - (j + 1)) s) ∙ sym (ap (λ (x : ℕ). row_added setup a g j x s) d) ∙ inv
+
+-- x is the distance, r the answer of `bin_of`
+pub pair_at_law : (setup : Setup) (ends : Ends) (a b : points.Point) (x : Float) (r : Option ℕ) (p : Reducer.Pair) → Tabled setup.edges ends → x ≡ squared_diff_norm a b → r ≡ ends_bin setup.edges ends x
+    → p ≡ pair_in r (datum_of (op_of setup.op) a.rd b.rd) → p ≡ built_pair setup a b
+unfolding built_pair
+pair_at_law setup ends a b x r p t e h k =
+    k ∙ ap (λ (o : Option ℕ). pair_in o (datum_of (op_of setup.op) a.rd b.rd)) (found_bin setup.edges ends (squared_diff_norm a b) r (h ∙ ap (ends_bin setup.edges ends) e) t (is_true _ (add-fits binary64 _ _)))
+
+-- o is the bin of the pair's value
+looked_up : (setup : Setup) (p : Reducer.Pair) (s : List Float) → pair_added setup.reducer (pair_value_bin setup.reducer p) setup.n_states p s ≡ pair_consumed setup p s
+unfolding consumed
+looked_up setup (kept b d) s = refl
+looked_up setup dropped s = refl
+
+pub one_added : (setup : Setup) (a b : points.Point) (pair : Pair) (o : Option ℕ) (s q : List Float) → the_pair pair ≡ built_pair setup a b → o ≡ pair_value_bin setup.reducer (the_pair pair)
+    → q ≡ pair_added setup.reducer o setup.n_states (the_pair pair) s → q ≡ pair_step setup (a, b) s
+unfolding pair_step
+one_added setup a b pair o s q e v h =
+    h ∙ ap (λ (x : Option ℕ). pair_added setup.reducer x setup.n_states (the_pair pair) s) v ∙ looked_up setup (the_pair pair) s ∙ ap (λ p. pair_consumed setup p s) e

@@ -18,13 +18,14 @@ use Rattle.edge_table.specs.declared.Lookup.{Lookup}
 use Rattle.edge_table.specs.Table.{table_of}
 use Rattle.parallel_serial.specs.declared.Setup.{Setup}
 use Rattle.unstructured.specs.declared.held.Lookups.{Lookups}
+use Rattle.unstructured.specs.declared.held.Searched.{Searched}
 use Rattle.unstructured.specs.Held.{Readable, Listed, Parts}
 
 abbrev pub edges : BuiltEdges
 edges = Irregular (record { ref_ptr = (0, 0); now = list })
 
 abbrev pub look : Lookup
-look = record { edges = edges; table = table_of edges (zero_f false); hints = record { ref_ptr = (0, 0); now = [] }; tabled = tabled edges (zero_f false) _ searchable refl }
+look = record { edges = edges; table = table_of edges; hints = record { ref_ptr = (0, 0); now = [] }; tabled = tabled edges _ searchable refl }
 
 abbrev pub mean : Setup
 mean = record {
@@ -44,6 +45,9 @@ histogram = record {
   n_states = length list - 1;
   usable = record { edges_usable = searchable; values_usable = searchable; states = refl; few = omega arith; small = omega arith; limit = omega arith };
 }
+
+pub searched : Searched
+searched = record { setup = record { ref_ptr = (0, 0); now = mean }; ends = look.table.ends; tabled = look.tabled }
 
 pub lookups : Lookups
 lookups = record { setup = mean; edges = look; values = None; edges_are = refl; values_are = refl }

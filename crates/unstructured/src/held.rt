@@ -3,9 +3,10 @@
 
 ghost use Rattle.std.specs.Prelude.{◌≡◌, length, option_map};
 ghost use Rattle.std.proofs.Props.{props};
+ghost use Rattle.edge_table.specs.Tabled.{Tabled, Tabled-prop};
 ghost use Rattle.unstructured.specs.Held.{Readable, Parts, Listed, value_edges};
 
-use edge_table::Lookup;
+use edge_table::{Ends, Lookup};
 use parallel_serial::{Sets, Setup};
 
 // A set of n points, whose slices hold them: component k of point i is at k times the stride plus i.
@@ -23,6 +24,14 @@ pub struct Points<'a> {
 #[derive(Clone, Copy)]
 pub struct PointPairs<'a> {
     pub sets: Sets<Points<'a>>,
+}
+
+// A run and the ends of its edges, for lookups of one distance.
+#[derive(Clone, Copy)]
+pub struct Searched<'a> {
+    pub setup: &'a Setup<'a>,
+    pub ends: Ends,
+    ghost tabled: { Tabled setup.now.edges ends } by { Tabled-prop setup.now.edges ends },
 }
 
 // A run with the lookup of its edges and, of a histogram, of its value edges.
@@ -64,4 +73,11 @@ pub struct Room {
     pub places: [usize; 256],
     pub bins: [usize; 256],
     pub values: [usize; 256],
+}
+
+// A run in batches, and their room.
+#[derive(Drop)]
+pub struct Batches<'a> {
+    pub look: &'a Lookups<'a>,
+    pub room: Room,
 }

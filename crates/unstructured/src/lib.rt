@@ -16,14 +16,14 @@ ghost use Rattle.unstructured_points.specs.Sets.{sets_of};
 ghost use Rattle.unstructured.specs.Readings.{auto_run, cross_run};
 ghost use Rattle.unstructured.specs.Held.{value_edges};
 ghost use Rattle.unstructured.specs.Pairs.{point_in, points_in, Held, HeldSets, sets_pairs, pairs_in, first_partner};
-ghost use Rattle.unstructured.specs.Pairs.{row_added, row_from, run_filled};
+ghost use Rattle.unstructured.specs.Pairs.{built_pair, row_added, row_from, run_filled};
 ghost use Rattle.unstructured.specs.Batches.{reading_in, kept_below, picked, numbered_pair};
 ghost use Rattle.unstructured.specs.Batches.{values_in, found_added, listed_added};
 
 mod held;
 
 use edge_table::{Ends, Lookup};
-use held::{Found, Lookups, PointPairs, Points, Readings, Room};
+use held::{Batches, Found, Lookups, PointPairs, Points, Readings, Room, Searched};
 use parallel_serial::{ReductionSpec, RunSpec, Sets, Setup};
 use point_pairs::Pair;
 use reducer::{BuiltEdges, BuiltReducer, Datum, PairOperation, Reducer};
@@ -64,6 +64,44 @@ fn pair_of(setup: &Setup, first: Datum, second: Datum, bin: usize) -> Pair
         second,
         (bin < setup.n_states).then_some(bin),
     )
+}
+
+// ---- all pairs of a run, by rows
+
+// A way to add the pairs of a point with those of a set from `from` on.
+trait Rows {
+    ghost use Rattle.parallel_serial.specs.declared.Setup.{Setup};
+
+    ghost setup: { Self → Setup };
+
+    fn add_row(&mut self, a: Point, set: &Points, from: usize, scratch: &mut [f64])
+        ensures row { scratch.new ≡ row_from (setup self.old) (the_point a) set.now from scratch.old }
+        ensures same { setup self.new ≡ setup self.old };
+}
+
+// Auto pairs only a later second.
+fn first_partner(sets: &Sets<Points>, i: usize) -> usize
+    requires { i < 4096 }
+    ensures { result ≡ first_partner sets.now i }
+{
+    match sets {
+        Sets::Auto(_) => i + 1,
+        Sets::Cross(_, _) => 0,
+    }
+}
+
+// All pairs of the run, first point ascending, second ascending within it.
+#[tactic(auto, using(crate::proofs::Loops::rows_start))]
+fn fill_rows<R: Rows>(rows: &mut R, sets: &Sets<Points>, scratch: &mut [f64])
+    ensures { scratch.new ≡ run_filled (R.setup rows.old) sets.now scratch.old }
+{
+    let first = sets.first();
+    let second = sets.second();
+    for i in 0..first.n {
+        let a = first.point_at(i);
+        let from = first_partner(sets, i);
+        rows.add_row(a, &second, from, &mut *scratch);
+    }
 }
 
 // ---- rows in batches: distances first, then the places within the ends of the edges, then their pairs
@@ -211,64 +249,27 @@ fn add_batch(
     );
 }
 
-// The pairs of a with a set's points from j on.
-// A `while`: a `for` would need the number of batches and each one's first point by a product, which is no plainer.
-fn add_row(
-    look: &Lookups,
-    a: Point,
-    set: &Points,
-    from: usize,
-    room: &mut Room,
-    scratch: &mut [f64],
-)
-    ensures { scratch.new ≡ row_from look.now.setup (the_point a) set.now from scratch.old }
-{
-    let mut j = from;
-    while j < set.n {
-        let m = (set.n - j).min(256);
-        add_batch(look, a, set, j, m, &mut *room, &mut *scratch);
-        j += m;
+impl Rows for Batches<'_> {
+    ghost setup = { λ rows. rows.look.now.setup };
+
+    // A `while`: a `for` would need the number of batches and each one's first point by a product, which is no plainer.
+    fn add_row(&mut self, a: Point, set: &Points, from: usize, scratch: &mut [f64]) {
+        let look = self.look;
+        let mut j = from;
+        while j < set.n {
+            let m = (set.n - j).min(256);
+            add_batch(look, a, set, j, m, &mut self.room, &mut *scratch);
+            j += m;
+        }
     }
-}
-
-// ---- all pairs of a run
-
-// Auto pairs only a later second.
-fn first_partner(sets: &Sets<Points>, i: usize) -> usize
-    requires { i < 4096 }
-    ensures { result ≡ first_partner sets.now i }
-{
-    match sets {
-        Sets::Auto(_) => i + 1,
-        Sets::Cross(_, _) => 0,
-    }
-}
-
-// First point ascending, second ascending within it.
-#[tactic(auto, using(crate::proofs::Loops::rows_start))]
-fn fill_rows(look: &Lookups, sets: &Sets<Points>, room: &mut Room, scratch: &mut [f64])
-    ensures { scratch.new ≡ run_filled look.now.setup sets.now scratch.old }
-{
-    let first = sets.first();
-    let second = sets.second();
-    for i in 0..first.n {
-        let a = first.point_at(i);
-        let from = first_partner(sets, i);
-        add_row(look, a, &second, from, &mut *room, &mut *scratch);
-    }
-}
-
-// How many places of hints pay for n second points: the edges' range takes somewhat less than 512, or than all.
-fn hint_span(n: usize) -> f64 {
-    if n < 160 { 510.0 } else { 4093.0 }
 }
 
 // The lookup of edges; the hints are its room.
-fn lookup_of<'a>(edges: BuiltEdges<'a>, span: f64, hints: &'a mut [u8; 4096]) -> Lookup<'a>
+fn lookup_of<'a>(edges: BuiltEdges<'a>, hints: &'a mut [u8; 4096]) -> Lookup<'a>
     requires { Usable edges }
     ensures { result.edges ≡ edges.entry }
 {
-    let table = edge_table::table_of(edges, span);
+    let table = edge_table::table_of(edges);
     edge_table::fill_hints(edges, table, &mut *hints);
     Lookup {
         edges,
@@ -278,41 +279,90 @@ fn lookup_of<'a>(edges: BuiltEdges<'a>, span: f64, hints: &'a mut [u8; 4096]) ->
 }
 
 // Of value edges, which a mean has not.
-fn values_of<'a>(
-    reducer: BuiltReducer<'a>,
-    span: f64,
-    hints: &'a mut [u8; 4096],
-) -> Option<Lookup<'a>>
+fn values_of<'a>(reducer: BuiltReducer<'a>, hints: &'a mut [u8; 4096]) -> Option<Lookup<'a>>
     requires { UsableValues reducer }
     ensures { option_map (λ t. t.edges) result ≡ value_edges reducer.entry }
 {
     match reducer {
-        Reducer::ComponentSumHistogram(edges) => Some(lookup_of(edges, span, hints)),
+        Reducer::ComponentSumHistogram(edges) => Some(lookup_of(edges, hints)),
         _ => None,
     }
 }
 
-// The pairs of a run's points.
-impl ReductionSpec for PointPairs<'_> {
-    ghost contributed = { λ run setup s. run_filled setup run.sets s };
-
-    // All pairs, by lookups that are made here.
-    fn add_contributions(&self, setup: &Setup, scratch: &mut [f64]) {
-        let span = hint_span(self.sets.second().n);
-        let mut hints = [0u8; 4096];
-        let mut value_hints = [0u8; 4096];
-        let look = Lookups {
-            setup: *setup,
-            edges: lookup_of(setup.edges, span, &mut hints),
-            values: values_of(setup.reducer, span, &mut value_hints),
-        };
-        let mut room = Room {
+// Many second points: the lookups and the room, then all pairs.
+fn fill_many(setup: &Setup, sets: &Sets<Points>, scratch: &mut [f64])
+    ensures { scratch.new ≡ run_filled setup.now sets.now scratch.old }
+{
+    let mut hints = [0u8; 4096];
+    let mut value_hints = [0u8; 4096];
+    let look = Lookups {
+        setup: *setup,
+        edges: lookup_of(setup.edges, &mut hints),
+        values: values_of(setup.reducer, &mut value_hints),
+    };
+    let mut batches = Batches {
+        look: &look,
+        room: Room {
             d: [0.0; 256],
             places: [0; 256],
             bins: [0; 256],
             values: [0; 256],
-        };
-        fill_rows(&look, &self.sets, &mut room, scratch);
+        },
+    };
+    fill_rows(&mut batches, sets, scratch);
+}
+
+// ---- few second points: no hints, no room
+
+impl Searched<'_> {
+    // The pair of a and b; dropped where its distance has no bin.
+    #[tactic(auto, using(crate::proofs::Batches::pair_at_law))]
+    fn pair_found(&self, a: Point, b: Point) -> Pair
+        ensures { the_pair result ≡ built_pair self.now.setup.now (the_point a) (the_point b) }
+    {
+        let distance = unstructured_points::squared_diff_norm(a, b);
+        let bin = edge_table::bin_of(self.setup.edges, self.ends, distance);
+        Pair::new(self.setup.op, a.rd, b.rd, bin)
+    }
+}
+
+impl Rows for Searched<'_> {
+    ghost setup = { λ rows. rows.setup.now };
+
+    fn add_row(&mut self, a: Point, set: &Points, from: usize, scratch: &mut [f64]) {
+        let setup = self.setup;
+        for j in from..set.n {
+            let b = set.point_at(j);
+            let pair = self.pair_found(a, b);
+            let value_bin = pair.value_bin(setup.reducer);
+            pair.add(setup.reducer, value_bin, setup.n_states, &mut *scratch);
+        }
+    }
+}
+
+// Few second points: the ends of the edges, then all pairs.
+fn fill_few(setup: &Setup, sets: &Sets<Points>, scratch: &mut [f64])
+    ensures { scratch.new ≡ run_filled setup.now sets.now scratch.old }
+{
+    let mut searched = Searched {
+        setup,
+        ends: edge_table::ends_of(setup.edges),
+    };
+    fill_rows(&mut searched, sets, scratch);
+}
+
+// ---- the reduction
+
+impl ReductionSpec for PointPairs<'_> {
+    ghost contributed = { λ run setup s. run_filled setup run.sets s };
+
+    // To make hints and room takes some 0.5 µs: below 16 second points a call would take longer than the Rust.
+    fn add_contributions(&self, setup: &Setup, scratch: &mut [f64]) {
+        if self.sets.second().n < 16 {
+            fill_few(setup, &self.sets, scratch)
+        } else {
+            fill_many(setup, &self.sets, scratch)
+        }
     }
 }
 

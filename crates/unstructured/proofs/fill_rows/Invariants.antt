@@ -4,4 +4,7 @@ use Rattle.unstructured.proofs.Loops.{rows_left}
 use Rattle.unstructured.proofs.fill_rows.Given as goal
 
 abbrev pub invariant-loop-i : goal.invariant-loop-i
-invariant-loop-i l = rows_left l.look.setup l.sets l.i l.scratch ≡ run_filled l.look.setup l.sets l.initial.scratch
+invariant-loop-i g l = record {
+  left : rows_left (g.R.Rows.setup l.initial.rows) l.sets l.i l.scratch ≡ run_filled (g.R.Rows.setup l.initial.rows) l.sets l.initial.scratch;
+  same : g.R.Rows.setup l.rows ≡ g.R.Rows.setup l.initial.rows;
+}
