@@ -11,18 +11,17 @@ use lib.Dec.{T}
 use lib.ListN.{length}
 use lib.IntN.{ℤ, pos, negsuc, nat_abs, ◌+ℤ◌, ◌-ℤ◌, ◌*ℤ◌}
 use lib.Signed.{non_neg, ◌≤ℤ◌}
-use mir.Syntax.{Width, w64}
+use mir.Syntax as syntax
 use mir.Val.{Fits, SFits, to_z, of_z}
 use mir.ValLaws.{to_z-of_z}
 use Rattle.definitions.specs.Lists.{flat_map}
-use Rattle.definitions.specs.Blocks as blocks
 use Rattle.definitions.specs.Blocks.{start_b}
 use Rattle.idx_3d_offset.specs.declared.Offset.{Offset}
-use Rattle.idx_3d_offset.specs.Steps.{counted, between, row, rows, planes, rest, Inside}
+use Rattle.idx_3d_offset.specs.Steps.{at, counted, between, row, rows, planes, rest, Inside}
 
 -- the width of the walk's own numbers
-abbrev pub num : Width
-num = w64
+abbrev pub num : syntax.Width
+num = syntax.w64
 
 -- ---- lengths
 counted_length : (n : ℕ) (d : ℤ) → length (counted d n) ≡ n
@@ -58,16 +57,13 @@ module _ (n : ℕ) (l : n ≤ 4_194_304) where
   back_is : back (pos n) ≡ pos n
   back_is = to_z-of_z num (pos n) fits
 
-product : {x y : ℤ} (m n : ℕ) → x ≡ pos m → y ≡ pos n → m * n ≤ 4_194_304 → SFits num (x *ℤ y) × (back (x *ℤ y) ≡ pos (m * n))
-product m n e f l = rw (e, f) (fits (m * n) l, back_is (m * n) l)
+product : (x y : ℤ) (m n : ℕ) → x ≡ pos m → y ≡ pos n → m * n ≤ 4_194_304 → SFits num (x *ℤ y) × (back (x *ℤ y) ≡ pos (m * n))
+product x y m n e f l = rw (e, f) (fits (m * n) l, back_is (m * n) l)
 
-sum : {x y : ℤ} (m n : ℕ) → x ≡ pos m → y ≡ pos n → m + n ≤ 4_194_304 → SFits num (x +ℤ y) × (back (x +ℤ y) ≡ pos (m + n))
-sum m n e f l = rw (e, f) (fits (m + n) l, back_is (m + n) l)
+sum : (x y : ℤ) (m n : ℕ) → x ≡ pos m → y ≡ pos n → m + n ≤ 4_194_304 → SFits num (x +ℤ y) × (back (x +ℤ y) ≡ pos (m + n))
+sum x y m n e f l = rw (e, f) (fits (m + n) l, back_is (m + n) l)
 
 -- ---- the sums and products of the code
-abbrev at : ℤ → ℤ → ℤ → blocks.Idx3DOffset
-at z y x = record { dz = z; dy = y; dx = x }
-
 module _ (lowest end o : Offset) (h : Inside lowest end o) where
   abbrev planes_left : ℕ
   planes_left = length (between (o.z +ℤ pos 1) end.z)
@@ -87,7 +83,7 @@ module _ (lowest end o : Offset) (h : Inside lowest end o) where
   rest_length : length (rest lowest end o) ≡ (planes_left * plane + rows_left) * row_length + row_left
   unfolding rest
   rest_length =
-      let r = λ (z y x : ℤ). length-map (between x end.x) (λ (dx : ℤ). at z y dx) in
+      let r = λ (z y x : ℤ). length-map (between x end.x) (at z y) in
       let q = λ (z y : ℤ). flat_length (λ dy. row lowest end z dy lowest.x) row_length (λ dy. r z dy lowest.x) (between y end.y) in
       let p = flat_length (λ dz. rows lowest end dz lowest.y) (plane * row_length) (λ dz. q dz lowest.y) (between (o.z +ℤ pos 1) end.z) in
       length-append (row lowest end o.z o.y o.x ++ rows lowest end o.z (o.y +ℤ pos 1)) (planes lowest end (o.z +ℤ pos 1))
@@ -111,10 +107,16 @@ module _ (lowest end o : Offset) (h : Inside lowest end o) where
   x_all = gap lowest.x end.x (omega (arith, ints))
 
   few : (planes_left * plane ≤ 16_129) × (rows_left ≤ 127)
-  few = let p : planes_left ≤ 127 = omega (arith, ints, z_gap) in let y : plane ≤ 127 = omega (arith, ints, y_all) in (omega (arith, mul-le-mul p y), omega (arith, ints, y_gap))
+  few =
+      let p : planes_left ≤ 127 = omega (arith, ints, z_gap) in
+      let y : plane ≤ 127 = omega (arith, ints, y_all) in
+      (omega (arith, mul-le-mul p y), omega (arith, ints, y_gap))
 
   few_rows : (planes_left * plane + rows_left) * row_length ≤ 2_097_152
-  few_rows = let x : row_length ≤ 127 = omega (arith, ints, x_all) in let r : planes_left * plane + rows_left ≤ 16_256 = omega (arith, few) in omega (arith, mul-le-mul r x)
+  few_rows =
+      let x : row_length ≤ 127 = omega (arith, ints, x_all) in
+      let r : planes_left * plane + rows_left ≤ 16_256 = omega (arith, few) in
+      omega (arith, mul-le-mul r x)
 
   -- each as the code forms it
   abbrev a : ℤ
@@ -132,35 +134,34 @@ module _ (lowest end o : Offset) (h : Inside lowest end o) where
   abbrev e : ℤ
   e = back (back end.x -ℤ back o.x)
 
-  a_is : a ≡ pos planes_left
-  a_is = omega (arith, ints, z_gap)
+  abbrev full_planes : ℤ
+  full_planes = back (a *ℤ b)
 
-  b_is : b ≡ pos plane
-  b_is = omega (arith, ints, y_all)
+  abbrev full_rows : ℤ
+  full_rows = back (full_planes +ℤ c)
 
-  c_is : c ≡ pos rows_left
-  c_is = omega (arith, ints, y_gap)
+  abbrev before_row : ℤ
+  before_row = back (full_rows *ℤ d)
 
-  d_is : d ≡ pos row_length
-  d_is = omega (arith, ints, x_all)
+  abbrev total : ℤ
+  total = back (before_row +ℤ e)
 
-  e_is : e ≡ pos row_left
-  e_is = omega (arith, ints, x_gap)
+  pub first_product : SFits num (a *ℤ b) × (full_planes ≡ pos (planes_left * plane))
+  first_product = product a b planes_left plane (omega (arith, ints, z_gap)) (omega (arith, ints, y_all)) (omega (arith, few))
 
-  pub first_product : SFits num (a *ℤ b) × (back (a *ℤ b) ≡ pos (planes_left * plane))
-  first_product = product planes_left plane a_is b_is (omega (arith, few))
+  pub first_sum : SFits num (full_planes +ℤ c) × (full_rows ≡ pos (planes_left * plane + rows_left))
+  first_sum = sum full_planes c (planes_left * plane) rows_left first_product.1 (omega (arith, ints, y_gap)) (omega (arith, few))
 
-  pub first_sum : SFits num (back (a *ℤ b) +ℤ c) × (back (back (a *ℤ b) +ℤ c) ≡ pos (planes_left * plane + rows_left))
-  first_sum = sum (planes_left * plane) rows_left first_product.1 c_is (omega (arith, few))
+  pub second_product : SFits num (full_rows *ℤ d) × (before_row ≡ pos ((planes_left * plane + rows_left) * row_length))
+  second_product = product full_rows d (planes_left * plane + rows_left) row_length first_sum.1 (omega (arith, ints, x_all)) (omega (arith, few_rows))
 
-  pub second_product : SFits num (back (back (a *ℤ b) +ℤ c) *ℤ d) × (back (back (back (a *ℤ b) +ℤ c) *ℤ d) ≡ pos ((planes_left * plane + rows_left) * row_length))
-  second_product = product (planes_left * plane + rows_left) row_length first_sum.1 d_is (omega (arith, few_rows))
+  pub second_sum : SFits num (before_row +ℤ e) × (total ≡ pos ((planes_left * plane + rows_left) * row_length + row_left))
+  second_sum =
+      let x : row_left ≤ 127 = omega (arith, ints, x_gap) in
+      sum before_row e ((planes_left * plane + rows_left) * row_length) row_left second_product.1 (omega (arith, ints, x_gap)) (omega (arith, few_rows))
 
-  pub second_sum : SFits num (back (back (back (a *ℤ b) +ℤ c) *ℤ d) +ℤ e) × (back (back (back (back (a *ℤ b) +ℤ c) *ℤ d) +ℤ e) ≡ pos ((planes_left * plane + rows_left) * row_length + row_left))
-  second_sum = sum ((planes_left * plane + rows_left) * row_length) row_left second_product.1 e_is (omega (arith, ints, few_rows, x_gap))
-
-  pub cast_fits : T (non_neg (back (back (back (back (a *ℤ b) +ℤ c) *ℤ d) +ℤ e))) × Fits w64 (nat_abs (back (back (back (back (a *ℤ b) +ℤ c) *ℤ d) +ℤ e)))
+  pub cast_fits : T (non_neg total) × Fits syntax.w64 (nat_abs total)
   cast_fits = rw second_sum.1 (tt, record { fits = omega (arith, ints, few_rows, x_gap) })
 
-  pub cast_is : nat_abs (back (back (back (back (a *ℤ b) +ℤ c) *ℤ d) +ℤ e)) ≡ length (rest lowest end o)
+  pub cast_is : nat_abs total ≡ length (rest lowest end o)
   cast_is = ap nat_abs second_sum.1 ∙ sym rest_length

@@ -1,4 +1,5 @@
--- The sequences that the crate hands out, as what a walk has left at its first offset; each offset in them is within reach; and the definitions' fold over all offsets as the fold over the auto sequence (`auto_fold`). Assumes nothing.
+-- The sequences that the crate hands out: what a walk has left at its first offset (`cross_rest`, `auto_rest`), each offset within reach,
+-- and the definitions' fold over all offsets as the fold over the auto sequence (`auto_fold`). Assumes nothing.
 use mathlib.Core.Path.{◌≡◌, refl, sym, ap, ◌∙◌, subst}
 use Rattle.std.specs.Prelude.{Option, None, Some, slice_get}
 use Rattle.std.specs.List.{All, filter}
@@ -24,7 +25,7 @@ use Rattle.definitions.specs.Blocks.{start_b, offsets, axes_offsets, is_pos, is_
 use Rattle.idx_3d_offset.specs.declared.Axes.{Axes}
 use Rattle.idx_3d_offset.specs.declared.Offset.{Offset}
 use Rattle.idx_3d_offset.specs.Offsets.{axis_fits, walkable, cross_seq, auto_seq, Within, Reach, Axis, Walkable}
-use Rattle.idx_3d_offset.specs.Steps.{offset_of, lowest_of, end_of, counted, between, row, rows, planes, rest, Inside}
+use Rattle.idx_3d_offset.specs.Steps.{at, offset_of, lowest_of, end_of, counted, between, row, rows, planes, rest, Inside}
 use Rattle.idx_3d_offset.proofs.Steps.{between_first, between_none, planes_first, first}
 
 -- ---- axes that fit
@@ -43,7 +44,11 @@ pub axes_fit : (a : Axes) (r : Bool) → r ≡ walkable a → r ≡ true → Wal
 unfolding walkable
 axes_fit a r p e =
     let t : T (walkable a) = subst T (sym e ∙ p) tt in
-    record { z_axis = axis_fits_law a.z (search (and_l, and_r)); y_axis = axis_fits_law a.y (search (and_l, and_r)); x_axis = axis_fits_law a.x (search (and_l, and_r)) }
+    record {
+      z_axis = axis_fits_law a.z (search (and_l, and_r));
+      y_axis = axis_fits_law a.y (search (and_l, and_r));
+      x_axis = axis_fits_law a.x (search (and_l, and_r));
+    }
 
 pub cross_all : (a b : Axes) → Walkable a → Walkable b → cross_seq a b ≡ axes_offsets a.z a.y a.x b.z b.y b.x
 unfolding cross_seq
@@ -88,8 +93,9 @@ between_all d e = let h = start_most (e -ℤ d) in go (start_b (e -ℤ d)) d (om
     go : (n : ℕ) (x : ℤ) → d ≤ℤ x → e ≤ℤ (x +ℤ pos n) → All (Between d e) (between x e)
     go zero x l m = done x (omega (arith, ints))
     go (suc n) x l m =
-        by_lt_z x e (λ h. rw (between_first x e h) (All-cons (Between d e) x (between (x +ℤ pos 1) e) (record { low = l; high = h }) (go n (x +ℤ pos 1) (omega (arith, ints)) (omega (arith, ints)))))
-        (done x)
+        let u : d ≤ℤ (x +ℤ pos 1) = omega (arith, ints) in
+        let f = λ (h : x <ℤ e). All-cons (Between d e) x (between (x +ℤ pos 1) e) (record { low = l; high = h }) (go n (x +ℤ pos 1) u (omega (arith, ints))) in
+        by_lt_z x e (λ h. rw (between_first x e h) (f h)) (done x)
 
 module _ {A : Type 0} (P : A → Type 0) (g : ℤ → List A) where
   flat_all : (d e : ℤ) → ((x : ℤ) → Between d e x → All P (g x)) → All P (flat_map g (between d e))
@@ -100,13 +106,14 @@ module _ {A : Type 0} (P : A → Type 0) (g : ℤ → List A) where
       go (x ∷ l) a = All-append P (g x) (flat_map g l) (h x (All-head (Between d e) x l a)) (go l (All-tail (Between d e) x l a))
 
 module _ (lowest end : Offset) (P : blocks.Idx3DOffset → Type 0) where
-  row_all : (z y x : ℤ) → ((dx : ℤ) → Between x end.x dx → P (record { dz = z; dy = y; dx = dx })) → All P (row lowest end z y x)
-  row_all z y x h = All-map P (λ dx. record { dz = z; dy = y; dx = dx }) (between x end.x) (All-weaker (Between x end.x) (λ dx. P (record { dz = z; dy = y; dx = dx })) h (between x end.x) (between_all x end.x))
+  row_all : (z y x : ℤ) → ((dx : ℤ) → Between x end.x dx → P (at z y dx)) → All P (row lowest end z y x)
+  row_all z y x h = All-map P (at z y) (between x end.x) (All-weaker (Between x end.x) (λ dx. P (at z y dx)) h (between x end.x) (between_all x end.x))
 
-  rows_all : (z y : ℤ) → ((dy dx : ℤ) → Between y end.y dy → Between lowest.x end.x dx → P (record { dz = z; dy = dy; dx = dx })) → All P (rows lowest end z y)
+  rows_all : (z y : ℤ) → ((dy dx : ℤ) → Between y end.y dy → Between lowest.x end.x dx → P (at z dy dx)) → All P (rows lowest end z y)
   rows_all z y h = flat_all P (λ dy. row lowest end z dy lowest.x) y end.y (λ dy b. row_all z dy lowest.x (λ dx c. h dy dx b c))
 
-  planes_all : (z : ℤ) → ((dz dy dx : ℤ) → Between z end.z dz → Between lowest.y end.y dy → Between lowest.x end.x dx → P (record { dz = dz; dy = dy; dx = dx })) → All P (planes lowest end z)
+  planes_all : (z : ℤ) → ((dz dy dx : ℤ) → Between z end.z dz → Between lowest.y end.y dy → Between lowest.x end.x dx → P (at dz dy dx))
+      → All P (planes lowest end z)
   planes_all z h = flat_all P (λ dz. rows lowest end dz lowest.y) z end.z (λ dz a. rows_all dz lowest.y (λ dy dx b c. h dz dy dx a b c))
 
 -- ---- those after (0, 0, 0)
@@ -120,7 +127,8 @@ module _ {A : Type 0} (p : A → Bool) where
   drops (a ∷ l) h = rw (All-head (λ a. p a ≡ false) a l h) (drops l (All-tail (λ a. p a ≡ false) a l h))
 
   -- of an axis from below 0 to past it: nothing below 0, and all past it
-  module _ (g : ℤ → List A) (e : ℤ) (he : pos 0 <ℤ e) (below : (m : ℕ) → All (λ a. p a ≡ false) (g (negsuc m))) (above : (x : ℤ) → is_pos x ≡ true → All (λ a. p a ≡ true) (g x)) where
+  module _ (g : ℤ → List A) (e : ℤ) (he : pos 0 <ℤ e)
+      (below : (m : ℕ) → All (λ a. p a ≡ false) (g (negsuc m))) (above : (x : ℤ) → is_pos x ≡ true → All (λ a. p a ≡ true) (g x)) where
     past : (x : ℤ) → Between (pos 1) e x → All (λ a. p a ≡ true) (g x)
     past (pos zero) b = absurd (omega (arith, ints))
     past (pos (suc m)) b = above (pos (suc m)) (lt-ltb 0 (suc m) (omega arith))
@@ -148,14 +156,16 @@ singles {A} f (d ∷ l) = ap (λ (m : List A). f d ∷ m) (singles f l)
 module _ (a b : Axes) (ha : Walkable a) (hb : Walkable b) where
   all_planes : axes_offsets a.z a.y a.x b.z b.y b.x ≡ planes (lowest_of a) (end_of b) (pos 1 -ℤ pos a.z)
   all_planes =
-      λ t. flat_map (λ dz. flat_map (λ dy. map (λ dx. record { dz = dz; dy = dy; dx = dx }) (offsets_law a.x b.x ha.x_axis.least t)) (offsets_law a.y b.y ha.y_axis.least t))
+      λ t. flat_map (λ dz. flat_map (λ dy. map (at dz dy) (offsets_law a.x b.x ha.x_axis.least t)) (offsets_law a.y b.y ha.y_axis.least t))
       (offsets_law a.z b.z ha.z_axis.least t)
 
   low_inside : Inside (lowest_of a) (end_of b) (lowest_of a)
   low_inside = search rules
 
   low_rest : rest (lowest_of a) (end_of b) (lowest_of a) ≡ cross_seq a b
-  low_rest = sym (planes_first (lowest_of a) (end_of b) (omega (arith, ints)) (lowest_of a) refl refl (omega (arith, ints))) ∙ sym all_planes ∙ sym (cross_all a b ha hb)
+  low_rest =
+      sym (planes_first (lowest_of a) (end_of b) (omega (arith, ints)) (lowest_of a) refl refl (omega (arith, ints)))
+      ∙ sym all_planes ∙ sym (cross_all a b ha hb)
 
   -- low and end are what calls answered
   module _ (low end : Offset) (p : low ≡ lowest_of a) (q : end ≡ end_of b) where
@@ -178,7 +188,7 @@ module _ (a : Axes) (h : Walkable a) where
 
   below_row : filter is_after (row low end (pos 0) (pos 0) low.x) ≡ row low end (pos 0) (pos 0) (pos 1)
   below_row =
-      let f : ℤ → blocks.Idx3DOffset = λ dx. record { dz = pos 0; dy = pos 0; dx = dx } in
+      let f : ℤ → blocks.Idx3DOffset = at (pos 0) (pos 0) in
       ap (filter is_after) (singles f (between low.x end.x))
       ∙ from_below is_after (λ dx. f dx ∷ []) end.x (omega (arith, ints))
       (λ m. All-cons (λ a. is_after a ≡ false) (f (negsuc m)) [] refl (All-nil (λ a. is_after a ≡ false)))
@@ -234,8 +244,11 @@ module _ (a b : Axes) where
       go true true p q =
           let h = axes_fit a true p refl in
           let k = axes_fit b true q refl in
+          let z = within a.z b.z h.z_axis k.z_axis in
+          let y = within a.y b.y h.y_axis k.y_axis in
+          let x = within a.x b.x h.x_axis k.x_axis in
           rw (all_planes a b h k)
-          (planes_all (lowest_of a) (end_of b) (Reach a b) (pos 1 -ℤ pos a.z) (λ dz dy dx z y x. record { z_axis = within a.z b.z h.z_axis k.z_axis dz z; y_axis = within a.y b.y h.y_axis k.y_axis dy y; x_axis = within a.x b.x h.x_axis k.x_axis dx x }))
+          (planes_all (lowest_of a) (end_of b) (Reach a b) (pos 1 -ℤ pos a.z) (λ dz dy dx i j l. record { z_axis = z dz i; y_axis = y dy j; x_axis = x dx l }))
 
 found : {A : Type 0} (P : A → Type 0) (l : List A) (i : ℕ) (d : A) → All P l → Some d ≡ slice_get l i → P d
 found P l i d h e = subst P (get_or_from_slice_get l i d d (sym e)) (All-get_or P l i d (slice_get_within l i d (sym e)) h)
@@ -252,11 +265,14 @@ fold_law : {A : Type 0} (p : A → Bool) (t : A → Option Float) (x : Float) (l
 fold_law p t x [] = refl
 fold_law p t x (a ∷ l) = go (p a) (λ y. fold_law p t y l)
   where
-    go : (b : Bool) → ((y : Float) → fold_at (λ a. cond (p a) (t a) None) y l ≡ fold_at t y (filter p l)) → fold_at (λ a. cond (p a) (t a) None) (add_opt (cond b (t a) None) x) l ≡ fold_at t x (cond b (a ∷ filter p l) (filter p l))
+    go : (b : Bool) → ((y : Float) → fold_at (λ a. cond (p a) (t a) None) y l ≡ fold_at t y (filter p l))
+        → fold_at (λ a. cond (p a) (t a) None) (add_opt (cond b (t a) None) x) l ≡ fold_at t x (cond b (a ∷ filter p l) (filter p l))
     go true h = h (add_opt (t a) x)
     go false h = h x
 
 pub auto_fold : (a : Axes) → Walkable a → (t : blocks.Idx3DOffset → Option Float) (x : Float)
     → fold_at (λ d. cond (is_after d) (t d) None) x (axes_offsets a.z a.y a.x a.z a.y a.x) ≡ fold_at t x (auto_seq a)
 unfolding auto_seq
-auto_fold a h t x = fold_law is_after t x (axes_offsets a.z a.y a.x a.z a.y a.x) ∙ ap (λ (l : List blocks.Idx3DOffset). fold_at t x (filter is_after l)) (sym (cross_all a a h h))
+auto_fold a h t x =
+    fold_law is_after t x (axes_offsets a.z a.y a.x a.z a.y a.x)
+    ∙ ap (λ (l : List blocks.Idx3DOffset). fold_at t x (filter is_after l)) (sym (cross_all a a h h))

@@ -10,7 +10,7 @@ use lib.Signed.{◌<ℤ◌, ◌≤ℤ◌}
 use Rattle.definitions.specs.Blocks as blocks
 use Rattle.definitions.specs.Blocks.{start_b}
 use Rattle.idx_3d_offset.specs.declared.Offset.{Offset}
-use Rattle.idx_3d_offset.specs.Steps.{offset_of, counted, between, row, rows, planes, rest, Inside}
+use Rattle.idx_3d_offset.specs.Steps.{at, offset_of, counted, between, row, rows, planes, rest, Inside}
 
 -- ---- one axis
 positive : (z : ℤ) → pos 0 <ℤ z → (n : ℕ) × (z ≡ pos (suc n))
@@ -45,7 +45,7 @@ module _ (lowest end : Offset) where
 -- ---- a step; q is the next offset
 module _ (lowest end o : Offset) (h : Inside lowest end o) where
   abbrev whole : List ℤ → List ℤ → List ℤ → List blocks.Idx3DOffset
-  whole xs ys zs = (map (λ dx. record { dz = o.z; dy = o.y; dx = dx }) xs ++ flat_map (λ dy. row lowest end o.z dy lowest.x) ys) ++ flat_map (λ dz. rows lowest end dz lowest.y) zs
+  whole xs ys zs = (map (at o.z o.y) xs ++ flat_map (λ dy. row lowest end o.z dy lowest.x) ys) ++ flat_map (λ dz. rows lowest end dz lowest.y) zs
 
   pub first : rest lowest end o ≡ offset_of o ∷ whole (between (o.x +ℤ pos 1) end.x) (between (o.y +ℤ pos 1) end.y) (between (o.z +ℤ pos 1) end.z)
   unfolding rest
@@ -53,14 +53,17 @@ module _ (lowest end o : Offset) (h : Inside lowest end o) where
 
   pub next_x : (q : Offset) → q.z ≡ o.z → q.y ≡ o.y → q.x ≡ o.x +ℤ pos 1 → rest lowest end o ≡ offset_of o ∷ rest lowest end q
   unfolding rest
-  next_x q ez ey ex = first ∙ sym (λ t. offset_of o ∷ ((row lowest end (ez t) (ey t) (ex t) ++ rows lowest end (ez t) (ey t +ℤ pos 1)) ++ planes lowest end (ez t +ℤ pos 1)))
+  next_x q ez ey ex =
+      first
+      ∙ sym (λ t. offset_of o ∷ ((row lowest end (ez t) (ey t) (ex t) ++ rows lowest end (ez t) (ey t +ℤ pos 1)) ++ planes lowest end (ez t +ℤ pos 1)))
 
   module _ (lx : end.x ≤ℤ (o.x +ℤ pos 1)) where
     pub next_y : (q : Offset) → q.z ≡ o.z → q.y ≡ o.y +ℤ pos 1 → q.x ≡ lowest.x → q.y <ℤ end.y → rest lowest end o ≡ offset_of o ∷ rest lowest end q
     unfolding rest
     next_y q ez ey ex g =
+        let y = (λ t. between (sym ey t) end.y) ∙ between_first q.y end.y g in
         first
-        ∙ (λ t. offset_of o ∷ whole (between_none (o.x +ℤ pos 1) end.x lx t) (((λ s. between (sym ey s) end.y) ∙ between_first q.y end.y g) t) (between (o.z +ℤ pos 1) end.z))
+        ∙ (λ t. offset_of o ∷ whole (between_none (o.x +ℤ pos 1) end.x lx t) (y t) (between (o.z +ℤ pos 1) end.z))
         ∙ sym (λ t. offset_of o ∷ ((row lowest end (ez t) q.y (ex t) ++ rows lowest end (ez t) (q.y +ℤ pos 1)) ++ planes lowest end (ez t +ℤ pos 1)))
 
     module _ (ly : end.y ≤ℤ (o.y +ℤ pos 1)) where
@@ -71,4 +74,7 @@ module _ (lowest end o : Offset) (h : Inside lowest end o) where
           ∙ ap (λ (l : List blocks.Idx3DOffset). offset_of o ∷ l) (planes_first lowest end (omega (arith, ints)) q ey ex g)
 
       pub next_none : end.z ≤ℤ (o.z +ℤ pos 1) → rest lowest end o ≡ offset_of o ∷ []
-      next_none lz = first ∙ (λ t. offset_of o ∷ whole (between_none (o.x +ℤ pos 1) end.x lx t) (between_none (o.y +ℤ pos 1) end.y ly t) (between_none (o.z +ℤ pos 1) end.z lz t))
+      next_none lz =
+          first
+          ∙ (λ t.
+          offset_of o ∷ whole (between_none (o.x +ℤ pos 1) end.x lx t) (between_none (o.y +ℤ pos 1) end.y ly t) (between_none (o.z +ℤ pos 1) end.z lz t))

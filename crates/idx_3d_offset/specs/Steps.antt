@@ -1,5 +1,6 @@
 -- What the walk goes over from where it is on. Definitions only.
-use Rattle.std.specs.Prelude.{Option, None, Some, List, [], ◌∷◌, ◌++◌, map, ℕ, zero, suc, ℤ, pos, negsuc, ◌+ℤ◌, ◌-ℤ◌, ◌≤ℤ◌, ◌<ℤ◌, ⊤}
+use Rattle.std.specs.Prelude.{Option, None, Some, List, [], ◌∷◌, ◌++◌, map, ℕ, zero, suc, ⊤}
+use Rattle.std.specs.Prelude.{ℤ, pos, negsuc, ◌+ℤ◌, ◌-ℤ◌, ◌≤ℤ◌, ◌<ℤ◌}
 use Rattle.std.proofs.Props.{props}
 use Rattle.definitions.specs.Lists.{flat_map}
 use Rattle.definitions.specs.Blocks as blocks
@@ -7,8 +8,11 @@ use Rattle.definitions.specs.Blocks.{start_b}
 use Rattle.idx_3d_offset.specs.declared.Axes.{Axes}
 use Rattle.idx_3d_offset.specs.declared.Offset.{Offset}
 
+abbrev pub at : ℤ → ℤ → ℤ → blocks.Idx3DOffset
+at z y x = record { dz = z; dy = y; dx = x }
+
 abbrev pub offset_of : Offset → blocks.Idx3DOffset
-offset_of o = record { dz = o.z; dy = o.y; dx = o.x }
+offset_of o = at o.z o.y o.x
 
 -- the lowest offset of a block with these axes, and the first past the highest on each axis
 abbrev pub lowest_of : Axes → Offset
@@ -29,7 +33,7 @@ between d e = counted d (start_b (e -ℤ d))
 module _ (lowest end : Offset) where
   -- the offsets of a row from x on, of a plane from its row y on, and from the plane z on
   abbrev pub row : ℤ → ℤ → ℤ → List blocks.Idx3DOffset
-  row z y x = map (λ dx. record { dz = z; dy = y; dx = dx }) (between x end.x)
+  row z y x = map (at z y) (between x end.x)
 
   abbrev pub rows : ℤ → ℤ → List blocks.Idx3DOffset
   rows z y = flat_map (λ dy. row z dy lowest.x) (between y end.y)
