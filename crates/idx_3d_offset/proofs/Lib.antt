@@ -1,7 +1,4 @@
-pub mod Signed
 pub mod Ranges
-pub mod Table
+pub mod Steps
 pub mod Sequence
-pub mod After
-pub mod Step
-pub mod Walk
+pub mod Lengths

@@ -1,17 +1,17 @@
-// The offsets between the cells of two blocks, each by its number, and the cells of an axis that take part at an offset (idx_3d_offset.rs).
+// The offsets between the cells of two blocks, in order, and the cells of an axis that take part at an offset (idx_3d_offset.rs).
 #![tactic(auto)]
 
-ghost use Rattle.std.specs.Prelude.{slice_get, ◌≡◌, ◌-◌, min, length, nat_abs};
-ghost use Rattle.std.proofs.Math.IntN.{sub_ℕ};
+ghost use Rattle.std.specs.Prelude.{◌≡◌, [], ◌∷◌, length, Some};
 ghost use Rattle.definitions.specs.Blocks.{start_a, start_b, count as count_of};
-ghost use Rattle.idx_3d_offset.specs.Offsets.{idx_of, offset_of, axis_fits, walkable, Axis, Walkable, Counts, cross_seq, auto_seq, axis_len, offset_number, lowest_offset, offset_after, Inside, Next, Next-prop};
+ghost use Rattle.idx_3d_offset.specs.Offsets.{idx_of, axis_fits, walkable, Walkable, cross_seq, auto_seq};
+ghost use Rattle.idx_3d_offset.specs.Steps.{offset_of, lowest_of, end_of, Inside, IsInside, IsInside-prop, rest, left};
 
 // An offset between cells, in z, y, x order; never a cell's own index, and never a position in the sequence.
 #[derive(Clone, Copy)]
 pub struct Idx3DOffset(pub i64, pub i64, pub i64);
 
 // The lengths of a block's axes: a type of its own, so that none is taken for an offset or a width.
-// That they are walkable is asked by four private functions: a struct that carried it would be made by the same test in each public one.
+// That they are walkable is asked by two private functions: a struct that carried it would be made by the same test in each public one.
 #[derive(Clone, Copy)]
 pub struct Axes {
     pub z: usize,
@@ -21,6 +21,14 @@ pub struct Axes {
 
 // The walk's own numbers.
 type Num = i64;
+
+// An offset in them.
+#[derive(Clone, Copy)]
+struct Offset {
+    z: Num,
+    y: Num,
+    x: Num,
+}
 
 // At least one cell and at most 64.
 fn axis_fits(n: usize) -> bool
@@ -39,107 +47,72 @@ impl Axes {
     }
 
     // The lowest offset of a block with these axes.
-    fn lowest(self) -> Idx3DOffset
+    fn lowest(self) -> Offset
         requires { Walkable self }
-        ensures { idx_of result ≡ lowest_offset self }
+        ensures { result ≡ lowest_of self }
     {
-        Idx3DOffset(1 - self.z as i64, 1 - self.y as i64, 1 - self.x as i64)
+        Offset {
+            z: 1 - self.z as Num,
+            y: 1 - self.y as Num,
+            x: 1 - self.x as Num,
+        }
     }
 
-    // The number of (0, 0, 0) among the offsets of a block with itself: as many stand before it as after it.
-    fn middle(self) -> Num
+    // On each axis the first past the highest offset to a block with these axes.
+    fn end(self) -> Offset
         requires { Walkable self }
-        ensures { Counts result (length (auto_seq self)) }
+        ensures { result ≡ end_of self }
     {
-        full_len(self, self) / 2
+        Offset {
+            z: self.z as Num,
+            y: self.y as Num,
+            x: self.x as Num,
+        }
     }
 }
 
-// How many offsets an axis has: from -(a - 1) to b - 1.
-fn axis_len(a: usize, b: usize) -> Num
-    requires a_axis { Axis a }
-    requires b_axis { Axis b }
-    ensures { Counts result (axis_len a b) }
-{
-    (a as Num) + (b as Num) - 1
-}
-
-// How many offsets the three axes have.
-fn full_len(a: Axes, b: Axes) -> Num
-    requires a_walkable { Walkable a }
-    requires b_walkable { Walkable b }
-    ensures { Counts result (length (cross_seq a b)) }
-{
-    axis_len(a.z, b.z) * axis_len(a.y, b.y) * axis_len(a.x, b.x)
-}
-
-// Number k of an axis' offsets, counted from -(a - 1).
-fn axis_offset(k: Num, a: usize) -> i64
-    requires k_natural { Counts k (nat_abs k) }
-    requires a_axis { Axis a }
-    ensures { result ≡ sub_ℕ (nat_abs k) (a - 1) }
-{
-    (k - (a as Num - 1)) as i64
-}
-
-// Number i of all offsets.
-fn offset_at(a: Axes, b: Axes, i: Num) -> Idx3DOffset
-    requires a_walkable { Walkable a }
-    requires b_walkable { Walkable b }
-    requires i_natural { Counts i (nat_abs i) }
-    ensures { idx_of result ≡ offset_number a b (nat_abs i) }
-{
-    let len_y = axis_len(a.y, b.y);
-    let len_x = axis_len(a.x, b.x);
-    let row = i / len_x;
-    Idx3DOffset(
-        axis_offset(row / len_y, a.z),
-        axis_offset(row % len_y, a.y),
-        axis_offset(i % len_x, a.x),
-    )
-}
-
-// How many offsets two blocks have.
-#[tactic(auto, using(crate::proofs::Sequence::axes_fit))]
-pub fn cross_len(a: Axes, b: Axes) -> usize
-    ensures { result ≡ length (cross_seq a b) }
-{
-    if a.fit() && b.fit() {
-        return full_len(a, b) as usize;
+impl Offset {
+    // As it is handed out.
+    fn handed_out(self) -> Idx3DOffset
+        ensures { idx_of result ≡ offset_of self }
+    {
+        Idx3DOffset(self.z as i64, self.y as i64, self.x as i64)
     }
-    0
-}
 
-// How many of a block's offsets with itself are after (0, 0, 0).
-#[tactic(auto, using(crate::proofs::Sequence::axes_fit, crate::proofs::Sequence::auto_none))]
-pub fn auto_len(a: Axes) -> usize
-    ensures { result ≡ length (auto_seq a) }
-{
-    if a.fit() {
-        return a.middle() as usize;
+    // The offset after this one, x fastest: an axis that is past its highest starts at its lowest again.
+    fn after(self, lowest: Offset, end: Offset) -> Option<Offset>
+        requires { Inside lowest end self }
+        ensures inside { IsInside lowest end result }
+        ensures next { rest lowest end self ≡ offset_of self ∷ left lowest end result }
+    {
+        let x = self.x + 1;
+        if x < end.x {
+            return Some(Offset { x, ..self });
+        }
+        let y = self.y + 1;
+        if y < end.y {
+            return Some(Offset {
+                z: self.z,
+                y,
+                x: lowest.x,
+            });
+        }
+        let z = self.z + 1;
+        if z < end.z {
+            return Some(Offset { z, ..lowest });
+        }
+        None
     }
-    0
-}
 
-// Offset number i of two blocks; none past the last.
-#[tactic(auto, using(crate::proofs::Sequence::past_end_law))]
-pub fn cross_offset(a: Axes, b: Axes, i: usize) -> Option<Idx3DOffset>
-    ensures { offset_of result ≡ slice_get (cross_seq a b) i }
-{
-    if i < cross_len(a, b) {
-        return Some(offset_at(a, b, i as Num));
+    // How many there are from this one on.
+    fn count_left(self, lowest: Offset, end: Offset) -> usize
+        requires { Inside lowest end self }
+        ensures { result ≡ length (rest lowest end self) }
+    {
+        let planes = end.z - 1 - self.z;
+        let rows = planes * (end.y - lowest.y) + (end.y - 1 - self.y);
+        (rows * (end.x - lowest.x) + (end.x - self.x)) as usize
     }
-    None
-}
-
-// Offset number i of a block with itself, of those after (0, 0, 0).
-pub fn auto_offset(a: Axes, i: usize) -> Option<Idx3DOffset>
-    ensures { offset_of result ≡ slice_get (auto_seq a) i }
-{
-    if i < auto_len(a) {
-        return Some(offset_at(a, a, a.middle() + 1 + i as Num));
-    }
-    None
 }
 
 // On an axis: the first of a's cells that has a partner at offset d.
@@ -167,63 +140,67 @@ pub fn count(d: i64, a: usize, b: usize) -> usize
         .min(b.saturating_sub(start_b(d)))
 }
 
-impl Idx3DOffset {
-    // The offset after this one.
-    fn after(self, a: Axes, b: Axes) -> Idx3DOffset
-        requires { Inside a b (idx_of self) }
-        ensures { idx_of result ≡ offset_after a b (idx_of self) }
-    {
-        let lowest = a.lowest();
-        let x = self.2 + 1;
-        if x < b.x as i64 {
-            return Idx3DOffset(self.0, self.1, x);
-        }
-        let y = self.1 + 1;
-        if y < b.y as i64 {
-            return Idx3DOffset(self.0, y, lowest.2);
-        }
-        Idx3DOffset(self.0 + 1, lowest.1, lowest.2)
-    }
-}
-
-// The offsets of two blocks, or of a block with itself, in order: the next one, and how many are left with it.
+// The offsets of two blocks, or of a block with itself, in order: the next one, and where each axis starts and ends.
 // Each is found from the one before by additions: its number in the sequence would take two divisions.
 #[derive(Drop)]
 pub struct Offsets {
-    a: Axes,
-    b: Axes,
-    next: Option<Idx3DOffset>,
-    left: usize,
-    ghost here: { Next a b next left } by { Next-prop a b next left },
+    lowest: Offset,
+    end: Offset,
+    next: Option<Offset>,
+    ghost inside: { IsInside lowest end next } by { IsInside-prop lowest end next },
 }
 
 impl Offsets {
     ghost use Rattle.idx_3d_offset.specs.Walk.{offsets_left};
 
+    // No offset.
+    fn none() -> Offsets
+        ensures { offsets_left result ≡ [] }
+    {
+        let zero = Offset { z: 0, y: 0, x: 0 };
+        Offsets {
+            lowest: zero,
+            end: zero,
+            next: None,
+        }
+    }
+
     // All offsets of two blocks.
+    #[tactic(auto, using(crate::proofs::Sequence::axes_fit), unfolding(crate::specs::Offsets::cross_seq))]
     pub fn cross(a: Axes, b: Axes) -> Offsets
         ensures { offsets_left result ≡ cross_seq a b }
     {
-        let left = cross_len(a, b);
-        let next = if left == 0 { None } else { Some(a.lowest()) };
-        Offsets { a, b, next, left }
+        if a.fit() && b.fit() {
+            let lowest = a.lowest();
+            return Offsets {
+                lowest,
+                end: b.end(),
+                next: Some(lowest),
+            };
+        }
+        Offsets::none()
     }
 
     // Those of a block with itself that are after (0, 0, 0).
+    #[tactic(auto, using(crate::proofs::Sequence::axes_fit), unfolding(crate::specs::Offsets::auto_seq, crate::specs::Offsets::cross_seq))]
     pub fn auto(a: Axes) -> Offsets
         ensures { offsets_left result ≡ auto_seq a }
     {
-        let left = auto_len(a);
-        let next = if left == 0 {
-            None
-        } else {
-            Some(Idx3DOffset(0, 0, 0).after(a, a))
-        };
-        Offsets {
-            a,
-            b: a,
-            next,
-            left,
+        if a.fit() {
+            let (lowest, end) = (a.lowest(), a.end());
+            let next = Offset { z: 0, y: 0, x: 0 }.after(lowest, end);
+            return Offsets { lowest, end, next };
+        }
+        Offsets::none()
+    }
+
+    // How many are left.
+    fn count_left(&self) -> usize
+        ensures { result ≡ length (offsets_left self.now) }
+    {
+        match self.next {
+            Some(o) => o.count_left(self.lowest, self.end),
+            None => 0,
         }
     }
 }
@@ -240,12 +217,21 @@ impl Iterator for Offsets {
 
     fn next(&mut self) -> Option<Idx3DOffset> {
         let o = self.next?;
-        self.left -= 1;
-        self.next = if self.left == 0 {
-            None
-        } else {
-            Some(o.after(self.a, self.b))
-        };
-        Some(o)
+        self.next = o.after(self.lowest, self.end);
+        Some(o.handed_out())
     }
+}
+
+// How many offsets two blocks have.
+pub fn cross_len(a: Axes, b: Axes) -> usize
+    ensures { result ≡ length (cross_seq a b) }
+{
+    Offsets::cross(a, b).count_left()
+}
+
+// How many of a block's offsets with itself are after (0, 0, 0).
+pub fn auto_len(a: Axes) -> usize
+    ensures { result ≡ length (auto_seq a) }
+{
+    Offsets::auto(a).count_left()
 }

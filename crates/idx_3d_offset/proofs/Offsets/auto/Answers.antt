@@ -1,12 +1,8 @@
-use Rattle.idx_3d_offset.proofs.Walk.{auto_left, auto_none_next, auto_some, zero_inside}
-use Rattle.idx_3d_offset.proofs.Offsets.auto.Goals.{then-left-eq0, else-left-eq0}
+use Rattle.idx_3d_offset.proofs.Sequence.{axes_fit, auto_inside, auto_rest}
 use Rattle.idx_3d_offset.proofs.Offsets.auto.Goals as goal
 
-pub after-requires : goal.after-requires
-after-requires c = zero_inside _ _ c.auto_len-left.ensures c.if-left-eq0.false
+pub after-next-requires : goal.after-next-requires
+after-next-requires c = auto_inside _ (axes_fit _ _ c.fit.ensures c.if-fit.true) _ _ c.lowest-lowest.ensures c.end-end.ensures
 
-pub invariant_of-result : goal.invariant_of-result
-invariant_of-result c = record { here = elim c.if-left-eq0.branch [ then-left-eq0 w ↦ rw w.next-is (auto_none_next _ _ c.auto_len-left.ensures w.if-left-eq0.true) | else-left-eq0 w ↦ rw w.next-is (auto_some _ _ c.auto_len-left.ensures w.if-left-eq0.false _ w.after.ensures) ] }
-
-pub returns : goal.returns
-returns c = auto_left _ _ c.auto_len-left.ensures
+pub returns-then-fit : goal.returns-then-fit
+returns-then-fit c = auto_rest _ (axes_fit _ _ c.fit.ensures c.if-fit.true) _ _ c.lowest-lowest.ensures c.end-end.ensures _ c.after-next.ensures.next
