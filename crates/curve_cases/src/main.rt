@@ -1,18 +1,28 @@
 // What `curve` prints of other files: refusals in their order, odd numbers, and the largest survey.
 #![tactic(auto)]
 
+use record_files::{EDGES_ROOM, POINTS_ROOM, TEXT_BYTES};
 use std::io::{self, Write};
 
 // The files' names, then what is printed of them.
-fn show(rt: &HostRuntime, points: &[u8], edges: &[u8]) -> io::Result<()> {
+fn show(rt: &HostRuntime, points_name: &[u8], edges_name: &[u8]) -> io::Result<()> {
     let mut out = io::writer(rt);
-    out.write_all(points)?;
+    out.write_all(points_name)?;
     out.write_all(b" ")?;
-    out.write_all(edges)?;
+    out.write_all(edges_name)?;
     out.write_all(b"\n")?;
-    let mut text = [0u8; 65536];
-    let n = record_files::text_of_files(rt, points, edges, &mut text);
-    out.write_all(&text[..n])
+    let mut points = [0u8; POINTS_ROOM];
+    let mut edges = [0u8; EDGES_ROOM];
+    let mut text = [0u8; TEXT_BYTES];
+    let read = record_files::text_of_files(
+        rt,
+        points_name,
+        edges_name,
+        &mut points,
+        &mut edges,
+        &mut text,
+    );
+    out.write_all(&text[..read.text_length])
 }
 
 // 28, before anything else. The folder itself can be opened, but not read.

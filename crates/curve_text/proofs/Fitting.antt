@@ -5,25 +5,26 @@ use Prim.Native.Nat.{ℕ, ◌*◌, ◌≤◌, ◌<◌}
 use lib.ListN.{length, drop}
 use lib.Ieee.{Float}
 use borrow.Author.Tests.{lt-ltb, le-ltb, le-leb, lt-leb}
-use Rattle.curve_text.specs.Text.{lines_text, refused_text, lines_fitting, refused_fitting, fitted}
+use Rattle.definitions.specs.Records.{curve_numbers}
+use Rattle.curve_text.specs.Text.{line_bytes, lines_text, refused_text, lines_fitting, refused_fitting, fitted}
 
 -- ---- the lines
 module _ (n : ℕ) (pack : List Float) (room : ℕ) where
-  pub lines_fit : n < 1000 → n * 2 ≤ length pack → n * 38 ≤ room → lines_text n n pack ≡ lines_fitting n pack room
+  pub lines_fit : n < 1000 → n * curve_numbers ≤ length pack → n * line_bytes ≤ room → lines_text n n pack ≡ lines_fitting n pack room
   unfolding lines_fitting
-  lines_fit h g k = rw (lt-ltb n 1000 h, le-leb (n * 2) (length pack) g, le-leb (n * 38) room k)
+  lines_fit h g k = rw (lt-ltb n 1000 h, le-leb (n * curve_numbers) (length pack) g, le-leb (n * line_bytes) room k)
 
   pub many_lines : 1000 ≤ n → [] ≡ lines_fitting n pack room
   unfolding lines_fitting
   many_lines h = rw (le-ltb n 1000 h)
 
-  pub lines_pack : n < 1000 → length pack < n * 2 → [] ≡ lines_fitting n pack room
+  pub lines_pack : n < 1000 → length pack < n * curve_numbers → [] ≡ lines_fitting n pack room
   unfolding lines_fitting
-  lines_pack h g = rw (lt-ltb n 1000 h, lt-leb (n * 2) (length pack) g)
+  lines_pack h g = rw (lt-ltb n 1000 h, lt-leb (n * curve_numbers) (length pack) g)
 
-  pub lines_room : n < 1000 → n * 2 ≤ length pack → room < n * 38 → [] ≡ lines_fitting n pack room
+  pub lines_room : n < 1000 → n * curve_numbers ≤ length pack → room < n * line_bytes → [] ≡ lines_fitting n pack room
   unfolding lines_fitting
-  lines_room h g k = rw (lt-ltb n 1000 h, le-leb (n * 2) (length pack) g, lt-leb (n * 38) room k)
+  lines_room h g k = rw (lt-ltb n 1000 h, le-leb (n * curve_numbers) (length pack) g, lt-leb (n * line_bytes) room k)
 
 -- ---- the line of a refusal
 pub refused_fit : (n room : ℕ) → n < 1000 → 12 ≤ room → refused_text n ≡ refused_fitting n room

@@ -11,7 +11,7 @@ use Rattle.definitions.specs.Lists.{at}
 use Rattle.definitions.specs.Run.{place}
 use Rattle.definitions.specs.Records.{ascii, decimal, hex_digit, hexadecimal, bits_text, curve_line}
 use Rattle.record_bytes.specs.Stores.{stored}
-use Rattle.curve_text.specs.Text.{decimal_text, decimal_then, hex_text, bits_then, line_text, lines_text, refused_text}
+use Rattle.curve_text.specs.Text.{line_bytes, decimal_text, decimal_then, hex_text, bits_then, line_text, lines_text, refused_text}
 use Rattle.record_bytes.proofs.Stores.{stored_keeps, stored_next, stored_last, stored_past, stored_part, stored_inside, rows_turn, rows_place}
 
 -- ---- decimal
@@ -112,7 +112,7 @@ module _ (n : ℕ) (x y : Float) where
         ∙ ap (λ (l : List ℕ). stored 0 l s) line_is
 
     -- each part put into what is left
-    pub line_put : (k m : ℕ) (s q a b : List ℕ) → p ≤ 4 → 38 ≤ length s → q ≡ stored 0 (decimal_then n 32) s → k ≡ length q - p → a ≡ stored 0 (bits_then x 32) (mid_of p k q)
+    pub line_put : (k m : ℕ) (s q a b : List ℕ) → p ≤ 4 → line_bytes ≤ length s → q ≡ stored 0 (decimal_then n 32) s → k ≡ length q - p → a ≡ stored 0 (bits_then x 32) (mid_of p k q)
         → m ≡ length (put_mid p k q a) - (p + 17) → b ≡ stored 0 (bits_then y 10) (mid_of (p + 17) m (put_mid p k q a)) → put_mid (p + 17) m (put_mid p k q a) b ≡ stored 0 (line_text n x y) s
     line_put k m s q a b h g f c d v w =
         let r = put_mid p k q a in

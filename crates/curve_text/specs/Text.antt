@@ -1,7 +1,14 @@
 -- A text in a slice, and pieces of the text by names that stay shut.
 use Rattle.std.specs.Prelude.{cond, ◌&&◌, List, [], ◌∷◌, ◌++◌, ℕ, ◌*◌, ltb, leb, length, drop, Float}
 use Rattle.definitions.specs.Lists.{upto, flat_map}
-use Rattle.definitions.specs.Records.{ascii, decimal, hexadecimal, bits_text, curve_line, refused_line}
+use Rattle.definitions.specs.Records.{ascii, decimal, hexadecimal, bits_text, curve_line, refused_line, curve_numbers}
+
+-- the largest length of a line, and of a text: the lines of 256 bins
+abbrev pub line_bytes : ℕ
+line_bytes = 38
+
+abbrev pub text_bytes : ℕ
+text_bytes = 256 * line_bytes
 
 unfoldable pub decimal_text : ℕ → List ℕ
 decimal_text n = decimal n
@@ -27,9 +34,9 @@ lines_text i n pack = flat_map (curve_line n pack) (upto i)
 unfoldable pub refused_text : ℕ → List ℕ
 refused_text n = refused_line n
 
--- the lines of n bins and the line of a refusal, or nothing: a number takes three digits at most, a line of a bin 38 bytes, a refusal's 12
+-- the lines of n bins and the line of a refusal, or nothing: a number takes three digits at most, a refusal's line 12 bytes
 unfoldable pub lines_fitting : ℕ → List Float → ℕ → List ℕ
-lines_fitting n pack room = cond (ltb n 1000 && (leb (n * 2) (length pack) && leb (n * 38) room)) (lines_text n n pack) []
+lines_fitting n pack room = cond (ltb n 1000 && (leb (n * curve_numbers) (length pack) && leb (n * line_bytes) room)) (lines_text n n pack) []
 
 unfoldable pub refused_fitting : ℕ → ℕ → List ℕ
 refused_fitting n room = cond (ltb n 1000 && leb 12 room) (refused_text n) []

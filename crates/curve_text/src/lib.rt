@@ -2,10 +2,18 @@
 #![tactic(auto)]
 
 ghost use Rattle.std.specs.Prelude.{◌≡◌, ◌*◌, ◌<◌, ◌≤◌, length};
-ghost use Rattle.definitions.specs.Records.{hex_digit};
+ghost use Rattle.definitions.specs.Records.{hex_digit, curve_numbers};
 ghost use Rattle.record_bytes.specs.Stores.{stored};
 ghost use Rattle.curve_text.specs.Text.{decimal_text, decimal_then, hex_text, bits_then, line_text, lines_text, refused_text};
-ghost use Rattle.curve_text.specs.Text.{lines_fitting, refused_fitting, fitted};
+ghost use Rattle.curve_text.specs.Text.{line_bytes, lines_fitting, refused_fitting, fitted};
+
+use record_bytes::CURVE_NUMBERS;
+
+// The largest length of a line.
+pub const LINE_BYTES: usize = 38;
+
+// The largest length of a text: the lines of 256 bins.
+pub const TEXT_BYTES: usize = 256 * LINE_BYTES;
 
 // A number of at most three decimal digits.
 #[derive(Clone, Copy)]
@@ -78,8 +86,8 @@ fn put_bits(out: &mut [u8], x: f64, end: u8)
 
 // The line of a bin at the front; answers its length.
 fn put_line(out: &mut [u8], bin: ThreeDigits, total: f64, weight: f64) -> usize
-    requires { 38 ≤ length out.old }
-    ensures value { (result ≡ length (line_text bin.value total weight)) × (result ≤ 38) }
+    requires { line_bytes ≤ length out.old }
+    ensures value { (result ≡ length (line_text bin.value total weight)) × (result ≤ line_bytes) }
     ensures out_after { out.new ≡ stored 0 (line_text bin.value total weight) out.old }
 {
     let p = put_number(out, bin, b' ');
@@ -90,8 +98,8 @@ fn put_line(out: &mut [u8], bin: ThreeDigits, total: f64, weight: f64) -> usize
 
 // The lines of n bins from the front on; answers their length. By an index: the bin's number is written, and the pack is read at two places.
 fn put_lines(out: &mut [u8], pack: &[f64], bins: ThreeDigits) -> usize
-    requires { (bins.value * 2 ≤ length pack.now) × (bins.value * 38 ≤ length out.old) }
-    ensures value { (result ≡ length (lines_text bins.value bins.value pack.now)) × (result ≤ bins.value * 38) }
+    requires { (bins.value * curve_numbers ≤ length pack.now) × (bins.value * line_bytes ≤ length out.old) }
+    ensures value { (result ≡ length (lines_text bins.value bins.value pack.now)) × (result ≤ bins.value * line_bytes) }
     ensures out_after { out.new ≡ stored 0 (lines_text bins.value bins.value pack.now) out.old }
 {
     let n = bins.value;
@@ -122,16 +130,16 @@ fn put_refused(out: &mut [u8], number: ThreeDigits) -> usize
 // The lines of n bins from the front on, unless the bins' numbers have more than three digits, the pack is too short or out has no room; answers their length.
 // 0 where nothing is written, which is what happened: nobody asks why.
 pub fn curve_lines(out: &mut [u8], pack: &[f64], n: usize) -> usize
-    ensures value { (result ≡ length (lines_fitting n pack.now (length out.old))) × (result ≤ n * 38) }
+    ensures value { (result ≡ length (lines_fitting n pack.now (length out.old))) × (result ≤ n * line_bytes) }
     ensures out_after { out.new ≡ stored 0 (lines_fitting n pack.now (length out.old)) out.old }
 {
     if n >= 1000 {
         return 0;
     }
-    if pack.len() < n * 2 {
+    if pack.len() < n * CURVE_NUMBERS {
         return 0;
     }
-    if out.len() < n * 38 {
+    if out.len() < n * LINE_BYTES {
         return 0;
     }
     put_lines(out, pack, ThreeDigits { value: n })

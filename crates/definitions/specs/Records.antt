@@ -57,6 +57,9 @@ record_edges b = map (λ i. float_at b (i * edge_bytes)) (upto (length b / edge_
 abbrev pub curve_numbers : ℕ
 curve_numbers = state_size mean
 
+abbrev pub bin_bytes : ℕ
+bin_bytes = curve_numbers * 8
+
 abbrev pub curve_bytes : ℕ → List Float → List ℕ
 curve_bytes n pack = flat_map (λ s. flat_map (λ e. float_bytes (at pack (place n e s))) (upto curve_numbers)) (upto n)
 
@@ -90,7 +93,7 @@ curve_rules points edges =
 
 -- then 24, output bytes not the curve's length
 abbrev pub entry_rules : List ℕ → List ℕ → ℕ → List Rule
-entry_rules points edges n = curve_rules points edges ++ (rule 24 (not (eqb n (curve_bins edges * (curve_numbers * 8)))) ∷ [])
+entry_rules points edges n = curve_rules points edges ++ (rule 24 (not (eqb n (curve_bins edges * bin_bytes))) ∷ [])
 
 -- what the output bytes are after the call
 unfoldable pub entry_output : List ℕ → List ℕ → List ℕ → List ℕ

@@ -9,10 +9,10 @@ use borrow.Rule.Slice.PartMut.{mid_of, put_mid}
 use lib.Ieee.{Float}
 use Rattle.definitions.specs.Lists.{at, upto, flat_map}
 use Rattle.definitions.specs.Run.{place}
-use Rattle.definitions.specs.Records.{float_at, float_bytes, curve_numbers}
+use Rattle.definitions.specs.Records.{float_at, float_bytes, curve_numbers, bin_bytes}
 use Rattle.laws.proofs.Lists.{range_length, rows_length}
 use Rattle.record_bytes.specs.Stores.{stored}
-use Rattle.record_bytes.specs.Columns.{numbers, three_numbers, number_bytes, bin_bytes, curve_records}
+use Rattle.record_bytes.specs.Columns.{numbers, three_numbers, number_bytes, bin_record, curve_records}
 use Rattle.record_bytes.proofs.Stores.{stored_next, stored_whole, stored_part, stored_middle, stored_keeps, table_turn, rows_turn}
 
 pub numbers_length : (size first n : ℕ) (b : List ℕ) → length (numbers size first n b) ≡ n
@@ -76,11 +76,11 @@ three_length first n b =
     length-append x (y ++ z) ∙ omega (arith, length-append y z, numbers_length 56 first n b, numbers_length 56 (first + 8) n b, numbers_length 56 (first + 16) n b)
 
 -- two halves written one after the other
-pub bin_stored : (x y : Float) (q r b : List ℕ) → length b ≡ 16 → q ≡ number_bytes x → r ≡ number_bytes y → put_mid 8 (length (q ++ drop 8 b) - 8) (q ++ drop 8 b) r ≡ bin_bytes x y
-unfolding number_bytes bin_bytes
+pub bin_stored : (x y : Float) (q r b : List ℕ) → length b ≡ bin_bytes → q ≡ number_bytes x → r ≡ number_bytes y → put_mid 8 (length (q ++ drop 8 b) - 8) (q ++ drop 8 b) r ≡ bin_record x y
+unfolding number_bytes bin_record
 bin_stored x y q r b h e f =
     let d : length q ≡ 8 = ap length e in
-    let k : length (q ++ drop 8 b) ≡ 16 = length-append q (drop 8 b) ∙ omega (arith, length-drop 8 b) in
+    let k : length (q ++ drop 8 b) ≡ bin_bytes = length-append q (drop 8 b) ∙ omega (arith, length-drop 8 b) in
     let i : length (drop 8 b) ≤ 8 = omega (arith, length-drop 8 b) in
     let g : drop 8 (drop 8 b) ≡ [] = drop_of_length-le (drop 8 b) i in
     (λ j. take_at q (drop 8 b) 8 d j ++ (r ++ drop (k j - 8) (drop_at q (drop 8 b) 8 d j)))
@@ -89,24 +89,24 @@ bin_stored x y q r b h e f =
 
 -- ---- the records of a curve
 module _ (n : ℕ) (pack : List Float) where
-  pub records_length : (i : ℕ) → length (curve_records i n pack) ≡ i * 16
+  pub records_length : (i : ℕ) → length (curve_records i n pack) ≡ i * bin_bytes
   unfolding curve_records
-  records_length i = rows_length (λ s. flat_map (λ e. float_bytes (at pack (place n e s))) (upto curve_numbers)) 16 (λ s. refl) 0 i
+  records_length i = rows_length (λ s. flat_map (λ e. float_bytes (at pack (place n e s))) (upto curve_numbers)) bin_bytes (λ s. refl) 0 i
 
   module _ (b₀ : List ℕ) where
     pub records_none : b₀ ≡ stored 0 (curve_records 0 n pack) b₀
     unfolding stored curve_records
     records_none = refl
 
-    pub records_turn : (i k : ℕ) (q r : List ℕ) → k ≡ 16 → i * 16 + 16 ≤ length b₀ → r ≡ bin_bytes (at pack i) (at pack (n + i)) → q ≡ stored 0 (curve_records i n pack) b₀ → put_mid (i * 16) k q r ≡ stored 0 (curve_records (i + 1) n pack) b₀
-    unfolding bin_bytes curve_records
+    pub records_turn : (i k : ℕ) (q r : List ℕ) → k ≡ bin_bytes → i * bin_bytes + bin_bytes ≤ length b₀ → r ≡ bin_record (at pack i) (at pack (n + i)) → q ≡ stored 0 (curve_records i n pack) b₀ → put_mid (i * bin_bytes) k q r ≡ stored 0 (curve_records (i + 1) n pack) b₀
+    unfolding bin_record curve_records
     records_turn i k q r d h e inv =
         let total : i ≡ place n 0 i = omega arith in
         let weight : n + i ≡ place n 1 i = omega arith in
-        ap (put_mid (i * 16) k q) e
-        ∙ stored_middle (i * 16) k (float_bytes (at pack i) ++ float_bytes (at pack (n + i))) q (sym d) (omega (arith, stored_keeps 0 _ b₀ q inv))
-        ∙ (λ j. stored (i * 16) (float_bytes (at pack (total j)) ++ float_bytes (at pack (weight j))) q)
-        ∙ rows_turn (λ s. flat_map (λ e. float_bytes (at pack (place n e s))) (upto curve_numbers)) b₀ i (i * 16) q (sym (records_length i)) inv
+        ap (put_mid (i * bin_bytes) k q) e
+        ∙ stored_middle (i * bin_bytes) k (float_bytes (at pack i) ++ float_bytes (at pack (n + i))) q (sym d) (omega (arith, stored_keeps 0 _ b₀ q inv))
+        ∙ (λ j. stored (i * bin_bytes) (float_bytes (at pack (total j)) ++ float_bytes (at pack (weight j))) q)
+        ∙ rows_turn (λ s. flat_map (λ e. float_bytes (at pack (place n e s))) (upto curve_numbers)) b₀ i (i * bin_bytes) q (sym (records_length i)) inv
 
     pub records_done : (i : ℕ) (q : List ℕ) → i ≤ n → n ≤ i → q ≡ stored 0 (curve_records i n pack) b₀ → q ≡ stored 0 (curve_records n n pack) b₀
     records_done i q h g inv = let e : i ≡ n = omega arith in inv ∙ ap (λ (j : ℕ). stored 0 (curve_records j n pack) b₀) e

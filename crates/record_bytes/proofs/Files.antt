@@ -6,6 +6,7 @@ use native.Mathlib.Omega.{arith}
 use lib.ListN.{length, take, drop}
 use lib.Ieee.{Float}
 use borrow.Author.Tests.{le-leb, lt-leb}
+use Rattle.definitions.specs.Records.{curve_numbers, bin_bytes}
 use Rattle.record_bytes.specs.Columns.{numbers, three_numbers, curve_records, edges_read, three_read, weights_read, records_fitting}
 use Rattle.record_bytes.specs.Stores.{stored}
 use Rattle.record_bytes.proofs.Stores.{stored_keeps, same_stored}
@@ -51,14 +52,14 @@ module _ (b : List ℕ) where
   weights_past h = rw (lt-leb (length b) 57344 h)
 
 module _ (n : ℕ) (pack : List Float) (room : ℕ) where
-  pub records_fit : n * 2 ≤ length pack → n * 16 ≤ room → curve_records n n pack ≡ records_fitting n pack room
+  pub records_fit : n * curve_numbers ≤ length pack → n * bin_bytes ≤ room → curve_records n n pack ≡ records_fitting n pack room
   unfolding records_fitting
-  records_fit h g = rw (le-leb (n * 2) (length pack) h, le-leb (n * 16) room g)
+  records_fit h g = rw (le-leb (n * curve_numbers) (length pack) h, le-leb (n * bin_bytes) room g)
 
-  pub short_pack : length pack < n * 2 → [] ≡ records_fitting n pack room
+  pub short_pack : length pack < n * curve_numbers → [] ≡ records_fitting n pack room
   unfolding records_fitting
-  short_pack h = rw (lt-leb (n * 2) (length pack) h)
+  short_pack h = rw (lt-leb (n * curve_numbers) (length pack) h)
 
-  pub short_room : n * 2 ≤ length pack → room < n * 16 → [] ≡ records_fitting n pack room
+  pub short_room : n * curve_numbers ≤ length pack → room < n * bin_bytes → [] ≡ records_fitting n pack room
   unfolding records_fitting
-  short_room h g = rw (le-leb (n * 2) (length pack) h, lt-leb (n * 16) room g)
+  short_room h g = rw (le-leb (n * curve_numbers) (length pack) h, lt-leb (n * bin_bytes) room g)

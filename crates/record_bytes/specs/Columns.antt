@@ -2,7 +2,7 @@
 use Rattle.std.specs.Prelude.{cond, ◌&&◌, List, [], ◌++◌, map, ℕ, ◌+◌, ◌*◌, ◌/◌, leb, length, Float}
 use Rattle.definitions.specs.Lists.{at, upto, flat_map}
 use Rattle.definitions.specs.Run.{place}
-use Rattle.definitions.specs.Records.{float_at, float_bytes, curve_numbers}
+use Rattle.definitions.specs.Records.{float_at, float_bytes, curve_numbers, bin_bytes}
 
 -- the number at byte `first` of each of n records of `size` bytes
 unfoldable pub numbers : ℕ → ℕ → ℕ → List ℕ → List Float
@@ -17,8 +17,8 @@ unfoldable pub number_bytes : Float → List ℕ
 number_bytes x = float_bytes x
 
 -- a bin's record: total, weight
-unfoldable pub bin_bytes : Float → Float → List ℕ
-bin_bytes total weight = float_bytes total ++ float_bytes weight
+unfoldable pub bin_record : Float → Float → List ℕ
+bin_record total weight = float_bytes total ++ float_bytes weight
 
 -- the first i records of a curve of n bins
 unfoldable pub curve_records : ℕ → ℕ → List Float → List ℕ
@@ -35,4 +35,4 @@ unfoldable pub weights_read : List ℕ → List Float
 weights_read b = cond (leb (length b) 57344) (numbers 56 48 (length b / 56) b) []
 
 unfoldable pub records_fitting : ℕ → List Float → ℕ → List ℕ
-records_fitting n pack room = cond (leb (n * 2) (length pack) && leb (n * 16) room) (curve_records n n pack) []
+records_fitting n pack room = cond (leb (n * curve_numbers) (length pack) && leb (n * bin_bytes) room) (curve_records n n pack) []

@@ -2,14 +2,19 @@
 #![tactic(auto)]
 
 ghost use Rattle.std.specs.Prelude.{◌≡◌, ◌+◌, ◌*◌, ◌^◌, ◌<◌, ◌≤◌, length};
-ghost use Rattle.definitions.specs.Records.{float_at};
+ghost use Rattle.definitions.specs.Records.{float_at, curve_numbers, bin_bytes};
 ghost use Rattle.record_bytes.specs.Stores.{stored};
-ghost use Rattle.record_bytes.specs.Columns.{numbers, three_numbers, number_bytes, bin_bytes, curve_records};
+ghost use Rattle.record_bytes.specs.Columns.{numbers, three_numbers, number_bytes, bin_record, curve_records};
 ghost use Rattle.record_bytes.specs.Columns.{edges_read, three_read, weights_read, records_fitting};
 
 pub const POINT_BYTES: usize = 56;
 
 pub const EDGE_BYTES: usize = 8;
+
+// A bin's numbers in a curve: total and weight.
+pub const CURVE_NUMBERS: usize = 2;
+
+pub const BIN_BYTES: usize = CURVE_NUMBERS * 8;
 
 pub const MAX_POINTS: usize = 1024;
 
@@ -59,8 +64,8 @@ fn decode_three(b: &[u8], first: usize, n: usize, out: &mut [f64])
 
 // A bin's record.
 fn encode_bin(b: &mut [u8], total: f64, weight: f64)
-    requires { length b.old ≡ 16 }
-    ensures { b.new ≡ bin_bytes total weight }
+    requires { length b.old ≡ bin_bytes }
+    ensures { b.new ≡ bin_record total weight }
 {
     store_float(&mut b[..8], total);
     store_float(&mut b[8..], weight);
@@ -68,12 +73,16 @@ fn encode_bin(b: &mut [u8], total: f64, weight: f64)
 
 // The records of n bins, from b's front on.
 fn encode(pack: &[f64], n: usize, b: &mut [u8])
-    requires { (n * 2 ≤ length pack.now) × (n * 16 ≤ length b.old) }
+    requires { (n * curve_numbers ≤ length pack.now) × (n * bin_bytes ≤ length b.old) }
     ensures { b.new ≡ stored 0 (curve_records n n pack.now) b.old }
 {
     // Not `chunks_exact_mut`: of the bytes that it lends, a proof knows nothing after the loop.
     for s in 0..n {
-        encode_bin(&mut b[s * 16..(s + 1) * 16], pack[s], pack[n + s]);
+        encode_bin(
+            &mut b[s * BIN_BYTES..(s + 1) * BIN_BYTES],
+            pack[s],
+            pack[n + s],
+        );
     }
 }
 
@@ -113,10 +122,10 @@ pub fn decode_points(
 pub fn encode_curve(pack: &[f64], n: usize, b: &mut [u8])
     ensures { b.new ≡ stored 0 (records_fitting n pack.now (length b.old)) b.old }
 {
-    if n > pack.len() / 2 {
+    if n > pack.len() / CURVE_NUMBERS {
         return;
     }
-    if n > b.len() / 16 {
+    if n > b.len() / BIN_BYTES {
         return;
     }
     encode(pack, n, b);

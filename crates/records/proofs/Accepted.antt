@@ -30,11 +30,11 @@ module _ (p e : List ℕ) (h : curve_number p e ≡ 0) where
   within =
       let l = limits p e (sym h) in
       let m = edges_length e in
-      rw (le-ltb 4096 (length p / 56) (omega arith), le-ltb 8192 (length p / 56) (omega arith), m, le-ltb 256 (length e / 8 - 1) (omega arith), le-ltb 4096 ((length e / 8 - 1) * 2) (omega arith))
+      rw (le-ltb 4096 (length p / 56) (omega arith), le-ltb 8192 (length p / 56) (omega arith), m, le-ltb 256 (length e / 8 - 1) (omega arith), le-ltb 4096 ((length e / 8 - 1) * curve_numbers) (omega arith))
 
   fits : pack_fits (entry_run p e) (curve_bins e * curve_numbers) ≡ true
   unfolding entry_run
-  fits = rw (eq-eqb (curve_bins e) (curve_bins e) refl, le-leb (curve_bins e * 2) (curve_bins e * 2) (le_refl (curve_bins e * 2)))
+  fits = rw (eq-eqb (curve_bins e) (curve_bins e) refl, le-leb (curve_bins e * curve_numbers) (curve_bins e * curve_numbers) (le_refl (curve_bins e * curve_numbers)))
 
   last_rules_law : T (none_broken (rule 23 (not (eqb 1 1 && eqb 1 1)) ∷ rule 24 (not (pack_fits (entry_run p e) (curve_bins e * curve_numbers))) ∷ []))
   last_rules_law = rw fits tt

@@ -9,7 +9,7 @@ use lib.Ieee.{Float}
 use Rattle.definitions.specs.Floats.{zero_f}
 use Rattle.definitions.specs.Bins.{bins}
 use Rattle.definitions.specs.Rules.{step}
-use Rattle.definitions.specs.Records.{column, curve_bins, entry_run, curve_pack}
+use Rattle.definitions.specs.Records.{column, curve_numbers, curve_bins, entry_run, curve_pack}
 use Rattle.reducer.specs.declared.PairOperation.TheVariants.{ElementwiseMultiply}
 use Rattle.reducer.specs.declared.BinEdges.TheVariants.{Irregular}
 use Rattle.reducer.specs.declared.Reducer.TheVariants.{ComponentSumMean}
@@ -43,7 +43,7 @@ module _ (p : List ℕ) (h : length p ≤ 57344) where
     unfolding numbers three_numbers listed_curve record_curve
     records_curve list pack s d e f g = g ∙ (λ j. listed_curve (length p / 56) (three_decoded 0 x q a d j) (three_decoded 24 y r b e j) (weights_decoded w t c f j) list pack)
 
-pub files_curve : (p e : List ℕ) (z q pack r : List Float) → length e ≤ 2056 → 257 ≡ length z → q ≡ stored 0 (edges_read e) z → pack ≡ replicate (curve_bins e * 2) (zero_f false)
+pub files_curve : (p e : List ℕ) (z q pack r : List Float) → length e ≤ 2056 → 257 ≡ length z → q ≡ stored 0 (edges_read e) z → pack ≡ replicate (curve_bins e * curve_numbers) (zero_f false)
     → r ≡ record_curve p (take (length e / 8) q) pack → r ≡ curve_pack p e
 unfolding record_curve entry_run curve_pack
 files_curve p e z q pack r h l f g k = k ∙ (λ j. record_curve p (edges_decoded e h z q l f j) (g j))
@@ -51,7 +51,7 @@ files_curve p e z q pack r h l f g k = k ∙ (λ j. record_curve p (edges_decode
 -- the run's parameters are the entry's
 pub listed_run : (n b : ℕ) (x y w : List Float) (list : Bor (List Float)) (pack r : List Float) → b ≡ length list.now - 1
     → r ≡ step (auto_run (record { count = n; stated = Some n; positions = x; values = y; weights = w })
-    (record { edges = Irregular list; kind = ComponentSumMean; op = ElementwiseMultiply; shape = record { pack = record { n_states = b; state_size = 2 }; members = 1; teams = 1 } })) pack
+    (record { edges = Irregular list; kind = ComponentSumMean; op = ElementwiseMultiply; shape = record { pack = record { n_states = b; state_size = curve_numbers }; members = 1; teams = 1 } })) pack
     → r ≡ listed_curve n x y w list.now pack
 unfolding run_of bins listed_curve
 listed_run n b x y w list pack r e f = f ∙ (rw e)

@@ -4,18 +4,22 @@
 ghost use Rattle.std.specs.Prelude.{◌≡◌, false, ◌-◌, ◌*◌, ◌/◌, ◌≤◌, length, replicate};
 ghost use Rattle.definitions.specs.Floats.{zero_f};
 ghost use Rattle.definitions.specs.Rules.{refusal};
-ghost use Rattle.definitions.specs.Records.{curve_bins, curve_pack, entry_rules, entry_output, curve_text, program_text};
+ghost use Rattle.definitions.specs.Records.{curve_numbers, curve_bins, curve_pack, entry_rules, entry_output, curve_text, program_text};
 ghost use Rattle.refusals.specs.Numbers.{number_of};
 ghost use Rattle.records.specs.Answers.{listed_curve, record_curve, file_read};
 ghost use Rattle.record_bytes.specs.Stores.{stored};
-ghost use Rattle.curve_text.specs.Text.{fitted};
+ghost use Rattle.curve_text.specs.Text.{text_bytes, fitted};
 
+use curve_text::TEXT_BYTES;
 use parallel_serial::{RunSpec, Shape};
-use record_bytes::{EDGE_BYTES, POINT_BYTES};
+use record_bytes::{BIN_BYTES, CURVE_NUMBERS, EDGE_BYTES, POINT_BYTES};
 use reducer::{Bins, Edges, Kind, PairOperation};
 use refusals::Refusal;
 use state_refusals::PackShape;
 use unstructured_points::PointSet;
+
+// The numbers of 256 bins.
+const PACK_NUMBERS: usize = 256 * CURVE_NUMBERS;
 
 // ---- the curve
 
@@ -45,7 +49,7 @@ fn run(positions: &[f64], values: &[f64], weights: &[f64], n: usize, list: &[f64
         shape: Shape {
             pack: PackShape {
                 n_states: edges.n_bins(),
-                state_size: 2,
+                state_size: CURVE_NUMBERS,
             },
             members: 1,
             teams: 1,
@@ -77,7 +81,7 @@ fn run_records(points: &[u8], list: &[f64], pack: &mut [f64])
 
 // The curve's pack, from zeros. Its two callers make the room: a function that made it would hand on an array of which the front alone is meant.
 fn fill_pack(points: &[u8], edges: &[u8], pack: &mut [f64])
-    requires { (length points.now ≤ 57344) × (length edges.now ≤ 2056) × (pack.old ≡ replicate (curve_bins edges.now * 2) (zero_f false)) }
+    requires { (length points.now ≤ 57344) × (length edges.now ≤ 2056) × (pack.old ≡ replicate (curve_bins edges.now * curve_numbers) (zero_f false)) }
     ensures { pack.new ≡ curve_pack points.now edges.now }
 {
     let m = edges.len() / EDGE_BYTES;
@@ -95,11 +99,11 @@ pub fn pairstat_curve(points: &[u8], edges: &[u8], output: &mut [u8]) -> Result<
 {
     record_refusals::curve_refusal(points, edges)?;
     let n = n_bins(edges);
-    if output.len() != n * 16 {
+    if output.len() != n * BIN_BYTES {
         return Err(Refusal::PackShape);
     }
-    let mut room = floats::zeros::<512>();
-    let pack = &mut room[..2 * n];
+    let mut room = floats::zeros::<PACK_NUMBERS>();
+    let pack = &mut room[..n * CURVE_NUMBERS];
     fill_pack(points, edges, pack);
     record_bytes::encode_curve(pack, n, output);
     Ok(())
@@ -109,16 +113,16 @@ pub fn pairstat_curve(points: &[u8], edges: &[u8], output: &mut [u8]) -> Result<
 
 // The text of the two files at the front of out; answers its length.
 fn write_text(points: &[u8], edges: &[u8], out: &mut [u8]) -> usize
-    requires { 9728 ≤ length out.old }
-    ensures value { (result ≡ length (curve_text points.now edges.now)) × (result ≤ 9728) }
+    requires { text_bytes ≤ length out.old }
+    ensures value { (result ≡ length (curve_text points.now edges.now)) × (result ≤ text_bytes) }
     ensures out_after { out.new ≡ stored 0 (curve_text points.now edges.now) out.old }
 {
     match record_refusals::curve_refusal(points, edges) {
         Err(refusal) => curve_text::refused_line(out, u32::from(refusal) as usize),
         Ok(()) => {
             let n = n_bins(edges);
-            let mut room = floats::zeros::<512>();
-            let pack = &mut room[..2 * n];
+            let mut room = floats::zeros::<PACK_NUMBERS>();
+            let pack = &mut room[..n * CURVE_NUMBERS];
             fill_pack(points, edges, pack);
             curve_text::curve_lines(out, pack, n)
         }
@@ -127,8 +131,8 @@ fn write_text(points: &[u8], edges: &[u8], out: &mut [u8]) -> usize
 
 // The text of the files that could be read, at the front of out; answers its length.
 fn write_program(points: Option<&[u8]>, edges: Option<&[u8]>, out: &mut [u8]) -> usize
-    requires { 9728 ≤ length out.old }
-    ensures value { (result ≡ length (program_text (file_read points.entry) (file_read edges.entry))) × (result ≤ 9728) }
+    requires { text_bytes ≤ length out.old }
+    ensures value { (result ≡ length (program_text (file_read points.entry) (file_read edges.entry))) × (result ≤ text_bytes) }
     ensures out_after { out.new ≡ stored 0 (program_text (file_read points.entry) (file_read edges.entry)) out.old }
 {
     match (points, edges) {
@@ -139,11 +143,10 @@ fn write_program(points: Option<&[u8]>, edges: Option<&[u8]>, out: &mut [u8]) ->
 
 // What the program prints of the files that could be read, written to out if it has room for it; answers the text's length.
 pub fn program_text(points: Option<&[u8]>, edges: Option<&[u8]>, out: &mut [u8]) -> usize
-    ensures value { (result ≡ length (program_text (file_read points.entry) (file_read edges.entry))) × (result ≤ 9728) }
+    ensures value { (result ≡ length (program_text (file_read points.entry) (file_read edges.entry))) × (result ≤ text_bytes) }
     ensures out_after { out.new ≡ fitted (program_text (file_read points.entry) (file_read edges.entry)) out.old }
 {
-    // 256 lines of 38 bytes.
-    let mut text = [0u8; 9728];
+    let mut text = [0u8; TEXT_BYTES];
     let n = write_program(points, edges, &mut text);
     curve_text::put_fitting(&text[..n], out);
     n
@@ -151,7 +154,7 @@ pub fn program_text(points: Option<&[u8]>, edges: Option<&[u8]>, out: &mut [u8])
 
 // The same of two files that could be read.
 pub fn curve_text(points: &[u8], edges: &[u8], out: &mut [u8]) -> usize
-    ensures value { (result ≡ length (curve_text points.now edges.now)) × (result ≤ 9728) }
+    ensures value { (result ≡ length (curve_text points.now edges.now)) × (result ≤ text_bytes) }
     ensures out_after { out.new ≡ fitted (curve_text points.now edges.now) out.old }
 {
     program_text(Some(points), Some(edges), out)

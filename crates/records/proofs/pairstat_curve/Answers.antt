@@ -2,6 +2,7 @@ use mathlib.Core.Path.{◌≡◌}
 use Prim.Native.Nat.{◌*◌}
 use native.Mathlib.Omega.{arith}
 use lib.ListN.{length, take}
+use Rattle.definitions.specs.Records.{curve_numbers}
 use Rattle.records.proofs.Outcomes.{limits, pack_holds, pack_part, zeros_taken, answer_first, keeps_first, answer_24, keeps_24, answer_0, output_made}
 use Rattle.records.proofs.pairstat_curve.Goals as goal
 
@@ -34,5 +35,5 @@ returns-clause-value c = search (answer_0, c.in_ok-curve_refusal.ensures)
 pub returns-clause-output_after : goal.returns-clause-output_after
 returns-clause-output_after c =
     let n = c.n_bins-n.result in
-    let h : 2 * n ≡ length (take (2 * n) c.zeros-room.result) = search (pack_part, c.in_ok-curve_refusal.ensures) in
+    let h : n * curve_numbers ≡ length (take (n * curve_numbers) c.zeros-room.result) = search (pack_part, c.in_ok-curve_refusal.ensures) in
     output_made _ _ _ c.in_ok-curve_refusal.ensures n c.n_bins-n.ensures.0 (omega arith) _ _ (omega arith) c.fill_pack.ensures c.encode_curve.ensures

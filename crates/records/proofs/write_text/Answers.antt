@@ -3,7 +3,8 @@ use Prim.Native.Nat.{◌*◌, ◌≤◌}
 use native.Mathlib.Omega.{arith}
 use lib.ListN.{length, take}
 use Rattle.record_bytes.proofs.Stores.{same_count, same_stored}
-use Rattle.records.proofs.Outcomes.{limits, pack_room, pack_holds, pack_part, zeros_taken, refused_curve, lines_made}
+use Rattle.definitions.specs.Records.{curve_numbers}
+use Rattle.records.proofs.Outcomes.{pack_numbers, limits, pack_room, pack_holds, pack_part, zeros_taken, refused_curve, lines_made}
 use Rattle.records.proofs.write_text.Goals as goal
 
 pub returns-in-Err-clause-value : goal.returns-in-Err-clause-value
@@ -26,13 +27,13 @@ fill_pack-requires c =
 pub returns-in-Ok-clause-value : goal.returns-in-Ok-clause-value
 returns-in-Ok-clause-value c =
     let n = c.n_bins-n.result in
-    let h : 2 * n ≡ length (take (2 * n) c.zeros-room.result) = search (pack_part, c.in-Ok.ensures) in
-    let k : 2 * n ≤ 512 = search (pack_room, c.in-Ok.ensures) in
+    let h : n * curve_numbers ≡ length (take (n * curve_numbers) c.zeros-room.result) = search (pack_part, c.in-Ok.ensures) in
+    let k : n * curve_numbers ≤ pack_numbers = search (pack_room, c.in-Ok.ensures) in
     (same_count _ _ _ c.curve_lines.ensures.value.0 (lines_made _ _ _ _ _ c.in-Ok.ensures c.n_bins-n.ensures.0 c.fill_pack.ensures (omega arith) (omega arith) (omega arith)), omega arith)
 
 pub returns-in-Ok-clause-out_after : goal.returns-in-Ok-clause-out_after
 returns-in-Ok-clause-out_after c =
     let n = c.n_bins-n.result in
-    let h : 2 * n ≡ length (take (2 * n) c.zeros-room.result) = search (pack_part, c.in-Ok.ensures) in
-    let k : 2 * n ≤ 512 = search (pack_room, c.in-Ok.ensures) in
+    let h : n * curve_numbers ≡ length (take (n * curve_numbers) c.zeros-room.result) = search (pack_part, c.in-Ok.ensures) in
+    let k : n * curve_numbers ≤ pack_numbers = search (pack_room, c.in-Ok.ensures) in
     same_stored _ _ _ _ c.curve_lines.ensures.out_after (lines_made _ _ _ _ _ c.in-Ok.ensures c.n_bins-n.ensures.0 c.fill_pack.ensures (omega arith) (omega arith) (omega arith))
