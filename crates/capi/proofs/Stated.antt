@@ -37,17 +37,15 @@ pub read_back : {nz ny nx sz sy sx : ℕ} {gz gy gx : ℤ} {c0 c1 c2 weights : L
 read_back {nz = nz} {ny = ny} {nx = nx} {sz = sz} {sy = sy} {sx = sx} {c0 = c0} {c1 = c1} {c2 = c2} {weights = weights} a b d =
     λ i. block_from nz ny nx sz sy sx (to_z-of_z a i) (to_z-of_z b i) (to_z-of_z d i) c0 c1 c2 weights
 
-module _ (s t : Sets) (e : Edges) (k : Kind) (o p : PairOperation) (shape h : Shape) (v es : definitions.Edges) (form : ℕ) where
-  stated : s ≡ t → edges_of e ≡ es → {w : definitions.Edges} → v ≡ w → kind_of k ≡ kind_from form v → o ≡ p → shape ≡ h
+-- x is the number that is handed to C, n the answer's; q is the pack after
+module _ (e : Edges) (k : Kind) (form : ℕ) {s t : Sets} {o p : PairOperation} {shape h : Shape} {v es : definitions.Edges} where
+  stated : {w : definitions.Edges} → s ≡ t → edges_of e ≡ es → v ≡ w → kind_of k ≡ kind_from form v → o ≡ p → shape ≡ h
       → run_of s (record { edges = e; kind = k; op = o; shape = shape }) ≡ run_by t es (kind_from form w) p h
   unfolding run_of
   stated a b c d f g = λ i. run_by (a i) (b i) ((d ∙ ap (kind_from form) c) i) (f i) (g i)
 
-  -- x is the number that is handed to C, n the answer's
-  pub stated_number : (x n len : ℕ) (w : definitions.Edges) → x ≡ n → n ≡ refusal (run_rules (run_of s (record { edges = e; kind = k; op = o; shape = shape })) len)
-      → s ≡ t → edges_of e ≡ es → v ≡ w → kind_of k ≡ kind_from form v → o ≡ p → shape ≡ h → x ≡ refusal (run_rules (run_by t es (kind_from form w) p h) len)
-  stated_number x n len w q r a b c d f g = q ∙ r ∙ ap (λ (u : Run). refusal (run_rules u len)) (stated a b c d f g)
-
-  pub stated_step : (pack q : List Float) (w : definitions.Edges) → q ≡ step (run_of s (record { edges = e; kind = k; op = o; shape = shape })) pack
-      → s ≡ t → edges_of e ≡ es → v ≡ w → kind_of k ≡ kind_from form v → o ≡ p → shape ≡ h → q ≡ step (run_by t es (kind_from form w) p h) pack
-  stated_step pack q w r a b c d f g = r ∙ ap (λ (u : Run). step u pack) (stated a b c d f g)
+  pub answered : (len : ℕ) (pack : List Float) {x n : ℕ} {q : List Float} {w : definitions.Edges} → x ≡ n → n ≡ refusal (run_rules (run_of s (record { edges = e; kind = k; op = o; shape = shape })) len)
+      → q ≡ step (run_of s (record { edges = e; kind = k; op = o; shape = shape })) pack
+      → s ≡ t → edges_of e ≡ es → v ≡ w → kind_of k ≡ kind_from form v → o ≡ p → shape ≡ h
+      → (x ≡ refusal (run_rules (run_by t es (kind_from form w) p h) len)) × (q ≡ step (run_by t es (kind_from form w) p h) pack)
+  answered len pack y r u a b c d f g = let run = stated a b c d f g in (y ∙ r ∙ ap (λ z. refusal (run_rules z len)) run, u ∙ ap (λ z. step z pack) run)

@@ -10,7 +10,7 @@ ghost use Rattle.definitions.specs.Run.{one_points, two_points, one_block, two_b
 ghost use Rattle.definitions.specs.Rules.{refusal, if_accepted, edges_call_rules, segment_rules, run_rules, step};
 ghost use Rattle.definitions.specs.Rules.{reset_rules, merge_rules, consolidate_rules, result_rules};
 ghost use Rattle.state_refusals.specs.Readings.{state_kind_of};
-ghost use Rattle.capi_words.specs.Words.{edges_from, kind_from, op_from, stride_from, state_kind_from, written, lookup_words, segment_words};
+ghost use Rattle.capi_words.specs.Words.{edges_from, kind_from, op_from, stride_from, state_kind_from, written, words_number, lookup_words, segment_words};
 ghost use Rattle.spatial.specs.Readings.{block_of};
 ghost use Rattle.unstructured_points.specs.Readings.{points_of};
 ghost use Rattle.capi.specs.Entries.{points_from, block_from, width_from, shape_from, run_from};
@@ -89,7 +89,7 @@ fn shape_from(n_states: usize, state_size: usize, members: usize, teams: usize) 
     }
 }
 
-// ---- lookups and segments
+// ---- lookups and segments: three words in front of out, and the number of the refusal; last 24, where out is too short for the words
 
 #[unsafe(no_mangle)]
 pub extern "C" fn pairstat_regular_bin_index(
@@ -98,19 +98,21 @@ pub extern "C" fn pairstat_regular_bin_index(
     n_bins: usize,
     value: f64,
     out: &mut [u64],
-)
-    ensures { out.new ≡ written (lookup_words (refusal (edges_call_rules (regular min max n_bins)))
-        (if_accepted (edges_call_rules (regular min max n_bins)) (Some (find (regular min max n_bins) value)) None)) out.old }
+) -> u32
+    ensures { let rules = edges_call_rules (regular min max n_bins) in
+        let words = lookup_words (refusal rules) (if_accepted rules (Some (find (regular min max n_bins) value)) None) in
+        (result ≡ words_number (refusal rules) (length out.old)) × (out.new ≡ written words out.old) }
 {
-    capi_words::write_lookup(bin_lookups::regular_bin_index(min, max, n_bins, value), out);
+    capi_words::write_lookup(bin_lookups::regular_bin_index(min, max, n_bins, value), out)
 }
 
 #[unsafe(no_mangle)]
-pub extern "C" fn pairstat_irregular_bin_index(edges: &[f64], value: f64, out: &mut [u64])
-    ensures { out.new ≡ written (lookup_words (refusal (edges_call_rules (irregular edges.now)))
-        (if_accepted (edges_call_rules (irregular edges.now)) (Some (find (irregular edges.now) value)) None)) out.old }
+pub extern "C" fn pairstat_irregular_bin_index(edges: &[f64], value: f64, out: &mut [u64]) -> u32
+    ensures { let rules = edges_call_rules (irregular edges.now) in
+        let words = lookup_words (refusal rules) (if_accepted rules (Some (find (irregular edges.now) value)) None) in
+        (result ≡ words_number (refusal rules) (length out.old)) × (out.new ≡ written words out.old) }
 {
-    capi_words::write_lookup(bin_lookups::irregular_bin_index(edges, value), out);
+    capi_words::write_lookup(bin_lookups::irregular_bin_index(edges, value), out)
 }
 
 #[unsafe(no_mangle)]
@@ -119,15 +121,16 @@ pub extern "C" fn pairstat_segment_idx_bounds(
     seg_index: usize,
     n_segments: usize,
     out: &mut [u64],
-)
-    ensures { out.new ≡ written (segment_words (refusal (segment_rules seg_index n_segments))
-        (if_accepted (segment_rules seg_index n_segments)
-        (Some (segment_start n_indices n_segments seg_index, segment_stop n_indices n_segments seg_index)) None)) out.old }
+) -> u32
+    ensures { let rules = segment_rules seg_index n_segments in
+        let words = segment_words (refusal rules)
+        (if_accepted rules (Some (segment_start n_indices n_segments seg_index, segment_stop n_indices n_segments seg_index)) None) in
+        (result ≡ words_number (refusal rules) (length out.old)) × (out.new ≡ written words out.old) }
 {
     capi_words::write_segment(
         misc::segment_idx_bounds(n_indices, seg_index, n_segments),
         out,
-    );
+    )
 }
 
 // ---- the pack operations: the number of the refusal, 0 for none
@@ -140,9 +143,8 @@ pub extern "C" fn pairstat_reset_full_statepack(
     state_size: usize,
     pack: &mut [f64],
 ) -> u32
-    ensures value { result ≡ refusal (reset_rules (state_kind_of (state_kind_from histogram n_bins)) n_states state_size (length pack.old)) }
-    ensures pack_after { pack.new ≡ if_accepted (reset_rules (state_kind_of (state_kind_from histogram n_bins)) n_states state_size (length pack.old))
-        (reset_pack (n_states * state_size) pack.old) pack.old }
+    ensures { let rules = reset_rules (state_kind_of (state_kind_from histogram n_bins)) n_states state_size (length pack.old) in
+        (result ≡ refusal rules) × (pack.new ≡ if_accepted rules (reset_pack (n_states * state_size) pack.old) pack.old) }
 {
     let kind = capi_words::state_kind_from(histogram, n_bins);
     let shape = PackShape {
@@ -163,11 +165,9 @@ pub extern "C" fn pairstat_merge_full_statepacks(
     pack: &mut [f64],
     other: &[f64],
 ) -> u32
-    ensures value { result ≡ refusal (merge_rules (state_kind_of (state_kind_from histogram n_bins)) n_states state_size other_states other_size
-        (length pack.old) (length other.now)) }
-    ensures pack_after { pack.new ≡ if_accepted (merge_rules (state_kind_of (state_kind_from histogram n_bins)) n_states state_size other_states other_size
-        (length pack.old) (length other.now))
-        (merge_packs (n_states * state_size) pack.old other.now) pack.old }
+    ensures { let kind = state_kind_of (state_kind_from histogram n_bins) in
+        let rules = merge_rules kind n_states state_size other_states other_size (length pack.old) (length other.now) in
+        (result ≡ refusal rules) × (pack.new ≡ if_accepted rules (merge_packs (n_states * state_size) pack.old other.now) pack.old) }
 {
     let kind = capi_words::state_kind_from(histogram, n_bins);
     let shape = PackShape {
@@ -190,10 +190,9 @@ pub extern "C" fn pairstat_serial_consolidate_scratch_statepacks(
     state_size: usize,
     packs: &mut [f64],
 ) -> u32
-    ensures value { result ≡ refusal (consolidate_rules (state_kind_of (state_kind_from histogram n_bins)) n_packs n_states state_size (length packs.old)) }
-    ensures packs_after { packs.new ≡ if_accepted (consolidate_rules (state_kind_of (state_kind_from histogram n_bins)) n_packs n_states state_size
-        (length packs.old))
-        (consolidate_packs n_packs (n_states * state_size) packs.old) packs.old }
+    ensures { let kind = state_kind_of (state_kind_from histogram n_bins) in
+        let rules = consolidate_rules kind n_packs n_states state_size (length packs.old) in
+        (result ≡ refusal rules) × (packs.new ≡ if_accepted rules (consolidate_packs n_packs (n_states * state_size) packs.old) packs.old) }
 {
     let kind = capi_words::state_kind_from(histogram, n_bins);
     let shape = PackShape {
@@ -213,11 +212,9 @@ pub extern "C" fn pairstat_value_from_accum_state(
     pack: &[f64],
     value: &mut [f64],
 ) -> u32
-    ensures value { result ≡ refusal (result_rules (state_kind_of (state_kind_from histogram n_bins)) n_states state_size index
-        (length pack.now) (length value.old)) }
-    ensures value_after { value.new ≡ if_accepted (result_rules (state_kind_of (state_kind_from histogram n_bins)) n_states state_size index
-        (length pack.now) (length value.old))
-        (result_value (state_kind_of (state_kind_from histogram n_bins)) n_states index pack.now value.old) value.old }
+    ensures { let kind = state_kind_of (state_kind_from histogram n_bins) in
+        let rules = result_rules kind n_states state_size index (length pack.now) (length value.old) in
+        (result ≡ refusal rules) × (value.new ≡ if_accepted rules (result_value kind n_states index pack.now value.old) value.old) }
 {
     let kind = capi_words::state_kind_from(histogram, n_bins);
     let shape = PackShape {
@@ -255,12 +252,10 @@ pub extern "C" fn pairstat_points_auto(
     teams: usize,
     pack: &mut [f64],
 ) -> u32
-    ensures value { result ≡ refusal (run_rules (run_from (one_points (points_from n_points stated stride positions.now values.now weights.now))
+    ensures { let run = run_from (one_points (points_from n_points stated stride positions.now values.now weights.now))
         irregular min max n_bins list.now
-        form value_irregular value_min value_max value_bins value_edges.now subtract n_states state_size members teams) (length pack.old)) }
-    ensures pack_after { pack.new ≡ step (run_from (one_points (points_from n_points stated stride positions.now values.now weights.now))
-        irregular min max n_bins list.now
-        form value_irregular value_min value_max value_bins value_edges.now subtract n_states state_size members teams) pack.old }
+        form value_irregular value_min value_max value_bins value_edges.now subtract n_states state_size members teams in
+        (result ≡ refusal (run_rules run (length pack.old))) × (pack.new ≡ step run pack.old) }
 {
     let set = set_from(positions, values, weights, n_points, stated, stride);
     let value = capi_words::edges_from(
@@ -311,14 +306,11 @@ pub extern "C" fn pairstat_points_cross(
     teams: usize,
     pack: &mut [f64],
 ) -> u32
-    ensures value { result ≡ refusal (run_rules (run_from (two_points (points_from a_points a_stated a_stride a_positions.now a_values.now a_weights.now)
+    ensures { let run = run_from (two_points (points_from a_points a_stated a_stride a_positions.now a_values.now a_weights.now)
         (points_from b_points b_stated b_stride b_positions.now b_values.now b_weights.now))
         irregular min max n_bins list.now
-        form value_irregular value_min value_max value_bins value_edges.now subtract n_states state_size members teams) (length pack.old)) }
-    ensures pack_after { pack.new ≡ step (run_from (two_points (points_from a_points a_stated a_stride a_positions.now a_values.now a_weights.now)
-        (points_from b_points b_stated b_stride b_positions.now b_values.now b_weights.now))
-        irregular min max n_bins list.now
-        form value_irregular value_min value_max value_bins value_edges.now subtract n_states state_size members teams) pack.old }
+        form value_irregular value_min value_max value_bins value_edges.now subtract n_states state_size members teams in
+        (result ≡ refusal (run_rules run (length pack.old))) × (pack.new ≡ step run pack.old) }
 {
     let a = set_from(
         a_positions,
@@ -388,14 +380,11 @@ pub extern "C" fn pairstat_blocks_auto(
     teams: usize,
     pack: &mut [f64],
 ) -> u32
-    ensures value { result ≡ refusal (run_rules (run_from (one_block (width_from width_z width_y width_x)
+    ensures { let run = run_from (one_block (width_from width_z width_y width_x)
         (block_from a_nz a_ny a_nx a_sz a_sy a_sx a_gz a_gy a_gx a0.now a1.now a2.now aw.now))
         irregular min max n_bins list.now
-        form value_irregular value_min value_max value_bins value_edges.now subtract n_states state_size members teams) (length pack.old)) }
-    ensures pack_after { pack.new ≡ step (run_from (one_block (width_from width_z width_y width_x)
-        (block_from a_nz a_ny a_nx a_sz a_sy a_sx a_gz a_gy a_gx a0.now a1.now a2.now aw.now))
-        irregular min max n_bins list.now
-        form value_irregular value_min value_max value_bins value_edges.now subtract n_states state_size members teams) pack.old }
+        form value_irregular value_min value_max value_bins value_edges.now subtract n_states state_size members teams in
+        (result ≡ refusal (run_rules run (length pack.old))) × (pack.new ≡ step run pack.old) }
 {
     let a = block_from(
         a_nz, a_ny, a_nx, a_sz, a_sy, a_sx, a_gz, a_gy, a_gx, a0, a1, a2, aw,
@@ -470,16 +459,12 @@ pub extern "C" fn pairstat_blocks_cross(
     teams: usize,
     pack: &mut [f64],
 ) -> u32
-    ensures value { result ≡ refusal (run_rules (run_from (two_blocks (width_from width_z width_y width_x)
+    ensures { let run = run_from (two_blocks (width_from width_z width_y width_x)
         (block_from a_nz a_ny a_nx a_sz a_sy a_sx a_gz a_gy a_gx a0.now a1.now a2.now aw.now)
         (block_from b_nz b_ny b_nx b_sz b_sy b_sx b_gz b_gy b_gx b0.now b1.now b2.now bw.now))
         irregular min max n_bins list.now
-        form value_irregular value_min value_max value_bins value_edges.now subtract n_states state_size members teams) (length pack.old)) }
-    ensures pack_after { pack.new ≡ step (run_from (two_blocks (width_from width_z width_y width_x)
-        (block_from a_nz a_ny a_nx a_sz a_sy a_sx a_gz a_gy a_gx a0.now a1.now a2.now aw.now)
-        (block_from b_nz b_ny b_nx b_sz b_sy b_sx b_gz b_gy b_gx b0.now b1.now b2.now bw.now))
-        irregular min max n_bins list.now
-        form value_irregular value_min value_max value_bins value_edges.now subtract n_states state_size members teams) pack.old }
+        form value_irregular value_min value_max value_bins value_edges.now subtract n_states state_size members teams in
+        (result ≡ refusal (run_rules run (length pack.old))) × (pack.new ≡ step run pack.old) }
 {
     let a = block_from(
         a_nz, a_ny, a_nx, a_sz, a_sy, a_sx, a_gz, a_gy, a_gx, a0, a1, a2, aw,

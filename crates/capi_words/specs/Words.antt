@@ -1,6 +1,6 @@
 -- A flat call's numbers: each stands for something, so that no call is without a meaning. An answer is a number, or three words.
 use Rattle.std.specs.Prelude.{Option, None, Some}
-use Rattle.std.specs.Prelude.{List, [], ◌∷◌, cond, ℕ, eqb, length, Float}
+use Rattle.std.specs.Prelude.{List, [], ◌∷◌, ◌++◌, cond, ℕ, eqb, ltb, length, drop, Float}
 use Rattle.definitions.specs.Bins.{Edges, regular, irregular}
 use Rattle.definitions.specs.Reducer.{Kind, comp0_mean, component_sum_mean, component_sum_histogram}
 use Rattle.state_refusals.specs.declared.StateKind.{StateKind}
@@ -28,9 +28,13 @@ stride_from stated k = cond (eqb stated 0) None (Some k)
 unfoldable pub state_kind_from : ℕ → ℕ → StateKind
 state_kind_from histogram n = cond (eqb histogram 0) Mean (Histogram n)
 
--- the words, where there is room for them and no more
+-- what a slice holds that words are written to: the words and its own tail, or what it held where it has no room for them
 unfoldable pub written : List ℕ → List ℕ → List ℕ
-written words out = cond (eqb (length out) (length words)) words out
+written words out = cond (ltb (length out) (length words)) out (words ++ drop (length words) out)
+
+-- the number of a call that writes three words to a slice of n: its own refusal's, then 24 where there is no room for them
+unfoldable pub words_number : ℕ → ℕ → ℕ
+words_number number n = cond (eqb number 0) (cond (ltb n 3) 24 0) number
 
 -- the number, whether there is a bin, and the bin
 abbrev pub lookup_words : ℕ → Option (Option ℕ) → List ℕ

@@ -1,11 +1,11 @@
 // What the numbers of a flat call stand for, and answers as words.
 #![tactic(auto)]
 
-ghost use Rattle.std.specs.Prelude.{◌≡◌, [], ◌∷◌};
+ghost use Rattle.std.specs.Prelude.{◌≡◌, [], ◌∷◌, length};
 ghost use Rattle.std.specs.Result.{result_ok};
 ghost use Rattle.refusals.specs.Numbers.{refusal_number, number_of};
 ghost use Rattle.reducer.specs.Readings.{edges_of, kind_of};
-ghost use Rattle.capi_words.specs.Words.{edges_from, kind_from, op_from, stride_from, state_kind_from, written, lookup_words, segment_words};
+ghost use Rattle.capi_words.specs.Words.{edges_from, kind_from, op_from, stride_from, state_kind_from, written, words_number, lookup_words, segment_words};
 
 use reducer::{Edges, Kind, PairOperation, RegularEdges};
 use refusals::Refusal;
@@ -99,23 +99,35 @@ pub fn segment_words(answer: Result<(usize, usize), Refusal>) -> [u64; 3]
     }
 }
 
-#[tactic(auto, unfolding(crate::specs::Words::written))]
-fn write_words(words: &[u64; 3], out: &mut [u64])
-    ensures { out.new ≡ written words.now out.old }
+// Writes the words in front, where there is room for them.
+#[tactic(auto, unfolding(crate::specs::Words::written, crate::specs::Words::words_number))]
+fn write_words(words: &[u64; 3], out: &mut [u64]) -> Result<(), Refusal>
+    ensures number { number_of result ≡ words_number 0 (length out.old) }
+    ensures out_after { out.new ≡ written words.now out.old }
 {
-    if out.len() == words.len() {
-        out.copy_from_slice(words);
+    if out.len() < words.len() {
+        return Err(Refusal::PackShape);
     }
+    out[..words.len()].copy_from_slice(words);
+    Ok(())
 }
 
-pub fn write_lookup(answer: Result<Option<usize>, Refusal>, out: &mut [u64])
-    ensures { out.new ≡ written (lookup_words (number_of answer) (result_ok answer)) out.old }
+// Writes a lookup's words, and gives the call's number: its own refusal's, before that of too short a slice.
+#[tactic(auto, using(crate::proofs::Numbers::number_of_and))]
+pub fn write_lookup(answer: Result<Option<usize>, Refusal>, out: &mut [u64]) -> u32
+    ensures number { result ≡ words_number (number_of answer) (length out.old) }
+    ensures out_after { out.new ≡ written (lookup_words (number_of answer) (result_ok answer)) out.old }
 {
-    write_words(&lookup_words(answer), out);
+    let written = write_words(&lookup_words(answer), out);
+    refusals::number_of(answer.and(written))
 }
 
-pub fn write_segment(answer: Result<(usize, usize), Refusal>, out: &mut [u64])
-    ensures { out.new ≡ written (segment_words (number_of answer) (result_ok answer)) out.old }
+// Writes a segment's words, and gives the call's number, as a lookup does.
+#[tactic(auto, using(crate::proofs::Numbers::number_of_and))]
+pub fn write_segment(answer: Result<(usize, usize), Refusal>, out: &mut [u64]) -> u32
+    ensures number { result ≡ words_number (number_of answer) (length out.old) }
+    ensures out_after { out.new ≡ written (segment_words (number_of answer) (result_ok answer)) out.old }
 {
-    write_words(&segment_words(answer), out);
+    let written = write_words(&segment_words(answer), out);
+    refusals::number_of(answer.and(written))
 }

@@ -10,7 +10,7 @@ unsafe extern "C" {
         value: f64,
         out: *mut u64,
         out_len: usize,
-    );
+    ) -> u32;
 
     pub fn pairstat_irregular_bin_index(
         edges: *const f64,
@@ -18,7 +18,7 @@ unsafe extern "C" {
         value: f64,
         out: *mut u64,
         out_len: usize,
-    );
+    ) -> u32;
 
     pub fn pairstat_segment_idx_bounds(
         n_indices: usize,
@@ -26,7 +26,7 @@ unsafe extern "C" {
         n_segments: usize,
         out: *mut u64,
         out_len: usize,
-    );
+    ) -> u32;
 
     pub fn pairstat_reset_full_statepack(
         histogram: u64,

@@ -17,33 +17,15 @@ fn refusal(number: u32) -> Result<(), u32> {
 /// The bin of a value under regular edges, if there is one; the index may be `n` or more.
 pub fn regular_bin_index(min: f64, max: f64, n: usize, value: f64) -> Result<Option<usize>, u32> {
     let mut out = [0; 3];
-    // SAFETY: above.
-    unsafe {
-        c::pairstat_regular_bin_index(min, max, n, value, out.as_mut_ptr(), out.len());
-    }
-    found(out)
+    regular_bin_index_into(min, max, n, value, &mut out)?;
+    Ok(found(out))
 }
 
 /// The bin of a value under irregular edges, if there is one.
 pub fn irregular_bin_index(edges: &[f64], value: f64) -> Result<Option<usize>, u32> {
     let mut out = [0; 3];
-    // SAFETY: above.
-    unsafe {
-        c::pairstat_irregular_bin_index(
-            edges.as_ptr(),
-            edges.len(),
-            value,
-            out.as_mut_ptr(),
-            out.len(),
-        );
-    }
-    found(out)
-}
-
-/// The number, whether there is a bin, and the bin.
-fn found([number, there, bin]: [u64; 3]) -> Result<Option<usize>, u32> {
-    refusal(number as u32)?;
-    Ok((there == 1).then_some(bin as usize))
+    irregular_bin_index_into(edges, value, &mut out)?;
+    Ok(found(out))
 }
 
 /// Where the segment starts and stops.
@@ -53,13 +35,56 @@ pub fn segment_idx_bounds(
     segments: usize,
 ) -> Result<(usize, usize), u32> {
     let mut out = [0; 3];
-    // SAFETY: above.
-    unsafe {
-        c::pairstat_segment_idx_bounds(indices, index, segments, out.as_mut_ptr(), out.len());
-    }
-    let [number, start, stop] = out;
-    refusal(number as u32)?;
+    segment_idx_bounds_into(indices, index, segments, &mut out)?;
+    let [_, start, stop] = out;
     Ok((start as usize, stop as usize))
+}
+
+/// The number, whether there is a bin, and the bin.
+fn found([_, there, bin]: [u64; 3]) -> Option<usize> {
+    (there == 1).then_some(bin as usize)
+}
+
+/// `regular_bin_index` as the entry gives it: its number, whether there is a bin, and the bin, in front of `out`.
+/// A slice of fewer than three words holds what it held, and is 24 where nothing else is refused.
+pub fn regular_bin_index_into(
+    min: f64,
+    max: f64,
+    n: usize,
+    value: f64,
+    out: &mut [u64],
+) -> Result<(), u32> {
+    // SAFETY: above.
+    refusal(unsafe {
+        c::pairstat_regular_bin_index(min, max, n, value, out.as_mut_ptr(), out.len())
+    })
+}
+
+/// `irregular_bin_index` in the same way.
+pub fn irregular_bin_index_into(edges: &[f64], value: f64, out: &mut [u64]) -> Result<(), u32> {
+    // SAFETY: above.
+    refusal(unsafe {
+        c::pairstat_irregular_bin_index(
+            edges.as_ptr(),
+            edges.len(),
+            value,
+            out.as_mut_ptr(),
+            out.len(),
+        )
+    })
+}
+
+/// `segment_idx_bounds` in the same way: its number, the start and the stop.
+pub fn segment_idx_bounds_into(
+    indices: usize,
+    index: usize,
+    segments: usize,
+    out: &mut [u64],
+) -> Result<(), u32> {
+    // SAFETY: above.
+    refusal(unsafe {
+        c::pairstat_segment_idx_bounds(indices, index, segments, out.as_mut_ptr(), out.len())
+    })
 }
 
 /// Every number of the pack becomes 0.0.

@@ -58,6 +58,39 @@ fn segments() {
     assert_eq!(segment_idx_bounds(10, 3, 3), Err(26));
 }
 
+/// What a call gives and leaves of two, three and five words that were all 9.
+fn at_each_length(
+    call: impl Fn(&mut [u64]) -> Result<(), u32>,
+) -> [(Result<(), u32>, [u64; 5]); 3] {
+    [2, 3, 5].map(|n| {
+        let mut out = [9; 5];
+        (call(&mut out[..n]), out)
+    })
+}
+
+#[test]
+fn words() {
+    let untouched = [9; 5];
+    let done = |words| [(Err(24), untouched), (Ok(()), words), (Ok(()), words)];
+    let refused = |number, words| {
+        [
+            (Err(number), untouched),
+            (Err(number), words),
+            (Err(number), words),
+        ]
+    };
+    let regular = |n| at_each_length(|out| regular_bin_index_into(0.0, 1.0, n, 0.25, out));
+    assert_eq!(regular(4), done([0, 1, 1, 9, 9]));
+    assert_eq!(regular(257), refused(7, [7, 0, 0, 9, 9]));
+    let irregular = |value| at_each_length(|out| irregular_bin_index_into(&[0.0, 1.0], value, out));
+    assert_eq!(irregular(2.0), done([0, 0, 0, 9, 9]));
+    let unordered = at_each_length(|out| irregular_bin_index_into(&[1.0, 0.0], 0.5, out));
+    assert_eq!(unordered, refused(13, [13, 0, 0, 9, 9]));
+    let segment = |index| at_each_length(|out| segment_idx_bounds_into(10, index, 3, out));
+    assert_eq!(segment(2), done([0, 7, 10, 9, 9]));
+    assert_eq!(segment(3), refused(26, [26, 0, 0, 9, 9]));
+}
+
 #[test]
 fn packs() {
     let mut pack = [1.0, 2.0, 3.0];
