@@ -2,19 +2,18 @@
 use mathlib.Core.Path.{◌≡◌, refl, sym, ap, ◌∙◌}
 use mathlib.Core.Bool.{false}
 use mathlib.Core.List.{List, ◌∷◌, ◌++◌, map}
-use Prim.Native.Nat.{ℕ, zero, suc, ◌+◌, ◌-◌, ◌<◌, ◌≤◌}
-use native.Mathlib.Nat.{add-zero, le_refl, not-suc-le-zero, le_of_suc-le-suc}
+use Prim.Native.Nat.{ℕ, zero, suc, ◌+◌, ◌<◌, ◌≤◌}
+use native.Mathlib.Nat.{not-suc-le-zero, le_of_suc-le-suc}
 use native.Mathlib.Omega.{arith}
-use lib.ListN.{length, set, take, drop, replicate, length-replicate}
-use lib.Seq.{length-take-le, take-take, get_or-set_other}
-use lib.Ieee.{Float, nan, binary64, add, of_bits}
+use lib.ListN.{length, take, drop, replicate, length-replicate}
+use lib.Seq.{length-take-le}
+use lib.Ieee.{Float, binary64, add, of_bits}
 use borrow.Author.Tests.{le-leb, lt-leb}
 use Rattle.definitions.specs.Lists.{at, range}
 use Rattle.definitions.specs.Floats.{zero_f}
 use Rattle.definitions.specs.Run.{Run, used, scratch, merged}
 use Rattle.definitions.specs.State.{merge_packs}
-use Rattle.laws.specs.Stores.{bump}
-use Rattle.state.proofs.Packs.{merge_turn, merge_done}
+use Rattle.state.proofs.Packs.{merge_done}
 use Rattle.parallel_serial.specs.Drive.{zero_pack, added_scratch}
 
 take_replicate : (n k : ℕ) (x : Float) → k ≤ n → take k (replicate n x) ≡ replicate k x

@@ -1,5 +1,5 @@
 -- What the runs share: the run that a caller states, its refusal by numbers, and the scratch pack.
-use Rattle.std.specs.Prelude.{List, [], ◌∷◌, Bool, false, not, cond, ◌&&◌, ◌||◌, ℕ, zero, suc, ◌+◌, ◌*◌, leb, ltb, eqb, length, replicate, Float}
+use Rattle.std.specs.Prelude.{List, [], ◌∷◌, Bool, false, not, cond, ◌&&◌, ◌||◌, ℕ, ◌*◌, leb, ltb, eqb, length, replicate, Float}
 use Rattle.definitions.specs.Floats.{zero_f}
 use Rattle.definitions.specs.Bins.{bins}
 use Rattle.definitions.specs.Reducer.{kind_size}

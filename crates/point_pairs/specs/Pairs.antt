@@ -1,5 +1,5 @@
 -- The code's pair as the definitions', and what adding it does to a pack.
-use Rattle.std.specs.Prelude.{Option, None, Some, List, ℕ, Float}
+use Rattle.std.specs.Prelude.{Option, None, List, ℕ, Float}
 use Rattle.definitions.specs.Reducer as Reducer
 use Rattle.definitions.specs.Reducer.{kept, dropped}
 use Rattle.reducer.specs.Readings.{BuiltReducer}

@@ -43,7 +43,13 @@ impl Pair {
 
     // Its datum is added to the state of its bin, in a pack of n_states states; value_bin is that of a histogram's value.
     // Nothing where it is dropped, and where the pack has no room.
-    pub fn add(self, reducer: BuiltReducer, value_bin: Option<usize>, n_states: usize, pack: &mut [f64])
+    pub fn add(
+        self,
+        reducer: BuiltReducer,
+        value_bin: Option<usize>,
+        n_states: usize,
+        pack: &mut [f64],
+    )
         ensures { pack.new ≡ pair_added reducer.entry value_bin n_states (the_pair self) pack.old }
     {
         if let Pair::Kept(bin, c0, c1, c2, weight) = self {

@@ -1,11 +1,11 @@
 -- A run: what follows of the number that it answers, and that the pack of an accepted one is merged. Assumes nothing.
 use mathlib.Core.Path.{◌≡◌, refl, sym, ap, ◌∙◌}
 use mathlib.Core.Bool.{false}
-use mathlib.Core.List.{List, map, ◌++◌}
+use mathlib.Core.List.{List, map}
 use Prim.Native.Nat.{ℕ, ◌*◌, ◌≤◌}
 use native.Mathlib.Omega.{arith}
-use lib.ListN.{length, take, drop, length-replicate}
-use lib.Seq.{length-take-le, take-append_seam}
+use lib.ListN.{length, take, length-replicate}
+use lib.Seq.{length-take-le}
 use lib.Ieee.{Float}
 use Rattle.std.specs.declared.result.Result.{Result}
 use Rattle.std.specs.declared.result.Result.TheVariants.{Ok}

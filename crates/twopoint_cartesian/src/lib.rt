@@ -24,8 +24,8 @@ mod held;
 
 use edge_table::Lookup;
 use held::{
-    CellPairs, Distances, Fields, Histograms, Mean, Means, Overlap, Overlaps, PairBlock, PairPlane, PairRow,
-    Planes, Room, Rows,
+    CellPairs, Distances, Fields, Histograms, Mean, Means, Overlap, Overlaps, PairBlock, PairPlane,
+    PairRow, Planes, Room, Rows,
 };
 use idx_3d_offset::{Axes, Idx3DOffset, Offsets};
 use parallel_serial::{ReductionSpec, RunSpec, Sets, Setup};

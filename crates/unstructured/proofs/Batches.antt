@@ -12,7 +12,7 @@ use native.Mathlib.Omega.{arith}
 use lib.Dec.{ltb, leb}
 use lib.ListN.{length, get_or, set, take, drop, length-map, length-drop}
 use lib.Seq.{get_or-set_same, get_or-set_other, take-suc, take-set-le, take-suc-set, take-length, ext_get_or, get_or-drop}
-use lib.Ieee.{Float, nan, binary64, mul}
+use lib.Ieee.{Float, nan, binary64}
 use lib.Ieee.Bits.{is_true}
 use lib.Ieee.Fits.{add-fits}
 use borrow.Author.Tests.{ltb-true, lt-leb}
@@ -27,7 +27,7 @@ use Rattle.laws.proofs.Loops.{run_append}
 use Rattle.reducer.specs.declared.PairOperation.{PairOperation}
 use Rattle.reducer.specs.declared.Reducer.TheVariants.{Comp0Mean, ComponentSumMean, ComponentSumHistogram}
 use Rattle.reducer.specs.Readings.{BuiltEdges, BuiltReducer, op_of}
-use Rattle.reducer.specs.Consume.{reducer_size, built_bins, built_bin, has_room, add_in, consumed_at, consumed}
+use Rattle.reducer.specs.Consume.{built_bins, built_bin, has_room, add_in, consumed_at, consumed}
 use Rattle.reducer.proofs.Placewise.{kept_bin}
 use Rattle.edge_table.specs.declared.Ends.{Ends}
 use Rattle.edge_table.specs.declared.Lookup.{Lookup}

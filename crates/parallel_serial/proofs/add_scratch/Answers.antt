@@ -1,5 +1,4 @@
 use mathlib.Core.Path.{refl}
-use native.Mathlib.Omega.{arith}
 use borrow.Author.Rules.{rules}
 use Rattle.state.proofs.Packs.{merge_turn}
 use Rattle.parallel_serial.proofs.Scratch.{added_done}
