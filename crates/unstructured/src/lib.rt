@@ -164,7 +164,8 @@ fn pair_values(op: PairOperation, first: Datum, readings: &Readings, d: &mut [f6
 
 // The pairs of a point with the listed ones, whose bins and whose values' bins have been found.
 #[tactic(auto, unfolding(crate::specs::Batches::placed_to))]
-fn add_pairs(setup: &Setup, first: Datum, found: &Found, scratch: &mut [f64])
+fn add_pairs(setup: &Setup, reducer: BuiltReducer, first: Datum, found: &Found, scratch: &mut [f64])
+    requires { reducer ≡ setup.now.reducer }
     ensures { scratch.new ≡ found_added setup.now (reading_of first) found.now scratch.old }
 {
     let setup = *setup;
@@ -175,7 +176,7 @@ fn add_pairs(setup: &Setup, first: Datum, found: &Found, scratch: &mut [f64])
         let second = readings.reading_at(readings.places[q]);
         let pair = pair_of(&setup, first, second, found.bins[q]);
         pair.add(
-            setup.reducer,
+            reducer,
             Some(found.values[q]),
             setup.n_states,
             &mut *scratch,
@@ -183,13 +184,19 @@ fn add_pairs(setup: &Setup, first: Datum, found: &Found, scratch: &mut [f64])
     }
 }
 
-// The same, with the kind tested once and not for each pair: a mean takes 10% less time so.
+// The same. Each kind has its own call, and so a loop in which the kind is not tested for each pair: a mean takes some 20% less time so.
 fn add_found(setup: &Setup, first: Datum, found: &Found, scratch: &mut [f64])
     ensures { scratch.new ≡ found_added setup.now (reading_of first) found.now scratch.old }
 {
     match setup.reducer {
-        Reducer::ComponentSumHistogram(_) => add_pairs(setup, first, found, scratch),
-        _ => add_pairs(setup, first, found, scratch),
+        Reducer::Comp0Mean => add_pairs(setup, Reducer::Comp0Mean, first, found, scratch),
+        Reducer::ComponentSumMean => {
+            add_pairs(setup, Reducer::ComponentSumMean, first, found, scratch)
+        }
+        Reducer::ComponentSumHistogram(edges) => {
+            let reducer = Reducer::ComponentSumHistogram(edges);
+            add_pairs(setup, reducer, first, found, scratch)
+        }
     }
 }
 
@@ -366,9 +373,9 @@ fn fill_few(setup: &Setup, sets: &Sets<Points>, scratch: &mut [f64])
 impl ReductionSpec for PointPairs<'_> {
     ghost contributed = { λ run setup s. run_filled setup run.sets s };
 
-    // To make hints and room takes some 0.5 µs: below 16 second points a call would take longer than the Rust.
+    // To make hints and room takes some 0.5 µs: below 20 second points a call would take as long as the Rust's.
     fn add_contributions(&self, setup: &Setup, scratch: &mut [f64]) {
-        if self.sets.second().n < 16 {
+        if self.sets.second().n < 20 {
             fill_few(setup, &self.sets, scratch)
         } else {
             fill_many(setup, &self.sets, scratch)
