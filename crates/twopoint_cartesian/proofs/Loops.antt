@@ -1,5 +1,5 @@
 -- The cells of an offset, turn by turn: what is left of a loop, run on the state as it is now, gives the loop's result. Assumes nothing.
-use mathlib.Core.Path.{◌≡◌, refl, sym, ap, ◌∙◌}
+use mathlib.Core.Path.{◌≡◌, sym, ap, ◌∙◌}
 use mathlib.Core.List.{List}
 use Prim.Native.Nat.{ℕ, zero, suc, ◌+◌, ◌-◌, ◌*◌, ◌<◌, ◌≤◌}
 use native.Mathlib.Nat.{sub-zero, add-zero, zero-add, add-mul}
@@ -8,7 +8,7 @@ use native.Mathlib.Omega.{arith}
 use lib.Ieee.{Float}
 use Rattle.laws.specs.Loops.{loop_left}
 use Rattle.parallel_serial.specs.declared.Setup.{Setup}
-use Rattle.twopoint_cartesian.specs.Cells.{Plane, Pairs, row_at, part_at, plane_at, row_added, plane_added, block_added}
+use Rattle.twopoint_cartesian.specs.Cells.{Row, Plane, Pairs, row_at, plane_at, row_added, plane_added, block_added}
 
 loop_join : {S : Type 0} (body : ℕ → S → S) (k m l : ℕ) (s : S) → loop_left body k (m + l) s ≡ loop_left body (k + m) l (loop_left body k m s)
 loop_join body k zero l s = λ t. loop_left body (sym (add-zero k) t) (zero-add l t) s
@@ -17,24 +17,11 @@ loop_join body k (suc m) l s =
     let e : suc k + m ≡ k + suc m = omega arith in
     ap (λ (i : ℕ). loop_left body k i s) d ∙ loop_join body (suc k) m l (body k s) ∙ ap (λ (i : ℕ). loop_left body i l (loop_left body (suc k) m (body k s))) e
 
--- the same turns, counted from y on
-loop_shift : {S : Type 0} (f g : ℕ → S → S) (y : ℕ) → ((r : ℕ) (s : S) → f (y + r) s ≡ g r s) → (r m : ℕ) (s : S) → loop_left f (y + r) m s ≡ loop_left g r m s
-loop_shift f g y h r zero s = refl
-loop_shift f g y h r (suc m) s =
-    let e : suc (y + r) ≡ y + suc r = omega arith in
-    (λ t. loop_left f (e t) m (h r s t)) ∙ loop_shift f g y h (suc r) m (g r s)
-
 module _ {S : Type 0} (body : ℕ → S → S) (n : ℕ) (z : S) where
   pub left_turn : (k : ℕ) (s q : S) → k < n → q ≡ body k s → loop_left body k (n - k) s ≡ z → loop_left body (k + 1) (n - (k + 1)) q ≡ z
   left_turn k s q h e inv =
       let m : n - k ≡ suc (n - (k + 1)) = omega arith in
       (λ t. loop_left body (add-one k t) (n - (k + 1)) (e t)) ∙ (rw m at inv)
-
-  -- several turns
-  pub left_turns : (k m : ℕ) (s q : S) → k + m ≤ n → q ≡ loop_left body k m s → loop_left body k (n - k) s ≡ z → loop_left body (k + m) (n - (k + m)) q ≡ z
-  left_turns k m s q h e inv =
-      let d : n - k ≡ m + (n - (k + m)) = omega arith in
-      ap (loop_left body (k + m) (n - (k + m))) e ∙ sym (loop_join body k m (n - (k + m)) s) ∙ sym (ap (λ (l : ℕ). loop_left body k l s) d) ∙ inv
 
   pub left_done : (k : ℕ) (s : S) → n ≤ k → loop_left body k (n - k) s ≡ z → s ≡ z
   left_done k s h inv =
@@ -50,17 +37,10 @@ module _ (setup : Setup) where
     plane_start s = ap (λ (m : ℕ). plane_added setup p 0 m s) (sub-zero k)
 
     module _ (z : List Float) (y : ℕ) (s : List Float) where
-      -- m rows from y on, u
-      pub plane_turn : (m : ℕ) (u : Plane) (q : List Float) → y + m ≤ k → u ≡ part_at p y m → q ≡ plane_added setup u 0 u.rows.m s → plane_added setup p y (k - y) s ≡ z → plane_added setup p (y + m) (k - (y + m)) q ≡ z
+      -- row y, u
+      pub plane_turn : (u : Row) (q : List Float) → y < k → u ≡ row_at p y → q ≡ row_added setup u 0 u.n s → plane_added setup p y (k - y) s ≡ z → plane_added setup p (y + 1) (k - (y + 1)) q ≡ z
       unfolding plane_added
-      plane_turn m u q h eu e =
-          let row : ℕ → List Float → List Float = λ y s. row_added setup (row_at p y) 0 p.rows.n s in
-          left_turns row k z y m s q h
-          (e
-          ∙ (λ t. loop_left (λ r s. row_added setup (row_at (eu t) r) 0 (eu t).rows.n s) 0 (eu t).rows.m s)
-          ∙ sym (loop_shift row (λ r s. row_added setup (row_at (part_at p y m) r) 0 p.rows.n s) y
-          (λ r s t. row_added setup (record { a = p.a; b = p.b; i = row_place p.rows.i y r p.rows.sa t; j = row_place p.rows.j y r p.rows.sb t; n = p.rows.n }) 0 p.rows.n s) 0 m s)
-          ∙ ap (λ (l : ℕ). loop_left row l m s) (add-zero y))
+      plane_turn u q h eu e = left_turn (λ y s. row_added setup (row_at p y) 0 p.rows.n s) k z y s q h (e ∙ λ t. row_added setup (eu t) 0 (eu t).n s)
 
       pub plane_done : k ≤ y → plane_added setup p y (k - y) s ≡ z → s ≡ z
       unfolding plane_added

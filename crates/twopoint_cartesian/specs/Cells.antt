@@ -1,5 +1,5 @@
 -- What the private functions promise: the cells of an offset into a state of their own, its merge into its bin, and the walk over the offsets, as updates of stores.
-use Rattle.std.specs.Prelude.{◌≡◌, List, [], ◌∷◌, false, cond, ℕ, ◌+◌, ◌*◌, ◌≤◌, ◌<◌, ltb, length, get_or, take, drop, map, replicate, Float}
+use Rattle.std.specs.Prelude.{List, [], ◌∷◌, false, cond, ℕ, ◌+◌, ◌*◌, ◌≤◌, ◌<◌, ltb, length, get_or, map, replicate, Float}
 use Rattle.std.specs.Prelude.{Option, None, Some}
 use Rattle.std.specs.Float.{binary64}
 use Rattle.std.specs.Float.Ieee.{add, mul}
@@ -69,9 +69,6 @@ pairs_of q = record { a = fields_of q.a; b = fields_of q.b; planes = q.planes }
 abbrev pub row_at : Plane → ℕ → Row
 row_at p y = record { a = p.a; b = p.b; i = p.rows.i + y * p.rows.sa; j = p.rows.j + y * p.rows.sb; n = p.rows.n }
 
-abbrev pub part_at : Plane → ℕ → ℕ → Plane
-part_at p y m = record { a = p.a; b = p.b; rows = record p.rows { i = p.rows.i + y * p.rows.sa; j = p.rows.j + y * p.rows.sb; m = m } }
-
 -- plane z of a block
 abbrev pub plane_at : Pairs → ℕ → Plane
 plane_at q z = record { a = q.a; b = q.b; rows = record q.planes.rows { i = q.planes.rows.i + z * q.planes.ta; j = q.planes.rows.j + z * q.planes.tb } }
@@ -110,25 +107,10 @@ weight_added b w s = cond (ltb b (length s)) (bump b w s) s
 unfoldable pub weights_added : Row → List ℕ → ℕ → ℕ → List Float → List Float
 weights_added r found x m s = loop_left (λ x s. weight_added (get_or found x 0) (mul binary64 (at r.a.weights (r.i + x)) (at r.b.weights (r.j + x))) s) x m s
 
--- the values of m rows, one row after another
-pub record Gathered (setup : Setup) (p : Plane) (m : ℕ) (values : List Float) : Type 0 where
-  pub value : (y x : ℕ) → y < m → x < p.rows.n → at values (y * p.rows.n + x) ≡ row_value setup (row_at p y) x
-
--- the weights of the rows from y on, m of them; found has the bins of one row after another
-unfoldable pub rows_weighted : Plane → List ℕ → ℕ → ℕ → List Float → List Float
-rows_weighted p found y m s = loop_left (λ y s. weights_added (row_at p y) (take p.rows.n (drop (y * p.rows.n) found)) 0 p.rows.n s) y m s
-
--- room for a row of n; the rooms are of one length
+-- room for a row of n
 pub record RowRoom (n v f : ℕ) : Type 0 where
-  pub least : 1 ≤ n
   pub values : n ≤ v
-  pub found : f ≡ v
-
--- room for m rows of n
-pub record RowsRoom (m n v f : ℕ) : Type 0 where
-  pub least : 1 ≤ m
-  pub values : m * n ≤ v
-  pub found : f ≡ v
+  pub found : n ≤ f
 
 -- ---- the same for a mean, its two numbers apart
 abbrev pub scalar_of : BuiltReducer → Datum → Float

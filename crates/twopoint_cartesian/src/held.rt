@@ -131,7 +131,7 @@ pub struct Histograms<'a> {
     ghost histogram: { distances.setup.reducer ≡ ComponentSumHistogram values.edges } by { Prim.hlevel props },
 }
 
-// The room of a histogram: the values and bins of some rows, and a state.
+// The room of a histogram: the values and bins of a row, and a state.
 #[derive(Drop)]
 pub struct Room {
     pub values: [f64; 64],

@@ -18,7 +18,7 @@ ghost use Rattle.idx_3d_offset.specs.Walk.{offsets_left};
 ghost use Rattle.spatial.specs.Readings.{block_of, width_of, sets_of};
 ghost use Rattle.twopoint_cartesian.specs.Held.{axes_of, fields_of, Near, AllReady, Placed, Holds};
 ghost use Rattle.twopoint_cartesian.specs.Readings.{auto_run, cross_run};
-ghost use Rattle.twopoint_cartesian.specs.Cells.{row_of, plane_of, pairs_of, row_at, part_at, plane_at, pairs_at, fields_in, planes_of, reading_in, datum_in, row_value, weight_added, weights_added, RowRoom, RowsRoom, Gathered, rows_weighted, scalar_of, cells_in_mean, row_in_mean, plane_in_mean, block_in_mean, offset_mean, mean_state, plane_added, block_added, overlap_of, offset_cells, fresh, StateFits, state_merged, merged_in, overlap_in, overlaps_left, overlap_added, overlaps_added, seq_of};
+ghost use Rattle.twopoint_cartesian.specs.Cells.{row_of, plane_of, pairs_of, row_at, plane_at, pairs_at, fields_in, planes_of, reading_in, datum_in, row_value, weight_added, weights_added, RowRoom, scalar_of, cells_in_mean, row_in_mean, plane_in_mean, block_in_mean, offset_mean, mean_state, row_added, plane_added, block_added, overlap_of, offset_cells, fresh, StateFits, state_merged, merged_in, overlap_in, overlaps_left, overlap_added, overlaps_added, seq_of};
 
 mod held;
 
@@ -162,52 +162,6 @@ impl<'a> PairPlane<'a> {
             i: rows.i + y * rows.sa,
             j: rows.j + y * rows.sb,
             n: rows.n,
-        }
-    }
-
-    // m rows from y on.
-    fn part(self, y: usize, m: usize) -> PairPlane<'a>
-        requires starts { y < self.rows.m }
-        requires ends { y + m ≤ self.rows.m }
-        ensures { plane_of result ≡ part_at (plane_of self.entry) y m }
-    {
-        let rows = self.rows;
-        PairPlane {
-            a: self.a,
-            b: self.b,
-            rows: Rows {
-                i: rows.i + y * rows.sa,
-                j: rows.j + y * rows.sb,
-                m,
-                ..rows
-            },
-        }
-    }
-
-    // The values of its rows, one after another.
-    fn gather(self, setup: Setup, values: &mut [f64])
-        requires { self.rows.m * self.rows.n ≤ length values.old }
-        ensures { Gathered setup.entry (plane_of self.entry) self.entry.rows.m values.new }
-    {
-        let n = self.rows.n;
-        for r in 0..self.rows.m {
-            let first = r * n;
-            let part = &mut values[first..first + n];
-            self.row(r).gather(setup, part);
-        }
-    }
-
-    // The weights of its rows, each to the bin found for it.
-    #[tactic(auto, using(crate::proofs::Histograms::weighted_start))]
-    fn add_weights(self, found: &[usize], state: &mut [f64])
-        requires { self.rows.m * self.rows.n ≤ length found.now }
-        ensures { state.new ≡ rows_weighted (plane_of self.entry) found.now 0 self.entry.rows.m state.old }
-    {
-        let n = self.rows.n;
-        for r in 0..self.rows.m {
-            let first = r * n;
-            let part = &found[first..first + n];
-            self.row(r).add_weights(part, state);
         }
     }
 
@@ -453,49 +407,33 @@ impl<'a> Means<'a> {
 // ---- histograms
 
 impl<'a> Histograms<'a> {
-    // The rows of a plane, looked up together. All but the state is room. Its parts are lent one by one: a struct of them would be taken apart at each call.
-    fn add_rows(self, pairs: PairPlane, values: &mut [f64], found: &mut [usize], state: &mut [f64])
+    // The pairs of a row: their values, the values' bins, and then their weights. All but the state is room.
+    // Its parts are lent one by one: a struct of them would be taken apart at each call.
+    fn add_row(self, pairs: PairRow, values: &mut [f64], found: &mut [usize], state: &mut [f64])
         requires sized { length state.old ≡ built_bins self.values.edges }
-        requires values_room { length values.old ≡ pairs.rows.m * pairs.rows.n }
-        requires found_room { length found.old ≡ pairs.rows.m * pairs.rows.n }
-        ensures { state.new ≡ plane_added self.entry.distances.setup (plane_of pairs.entry) 0 pairs.entry.rows.m state.old }
+        requires room { RowRoom pairs.n (length values.old) (length found.old) }
+        ensures { state.new ≡ row_added self.entry.distances.setup (row_of pairs.entry) 0 pairs.entry.n state.old }
     {
-        pairs.gather(self.distances.setup, values);
-        edge_batch::bins_of::<false>(self.values, values, found);
-        pairs.add_weights(found, state);
+        let values = &mut values[..pairs.n];
+        let found = &mut found[..pairs.n];
+        pairs.gather(self.distances.setup, &mut *values);
+        edge_batch::bins_of::<false>(self.values, &*values, &mut *found);
+        pairs.add_weights(&*found, state);
     }
 
-    // The rows, as many at once as the room holds (`most`).
-    // A `while`: a `for` would need the number of turns and each one's first row by a product, which is no plainer.
-    fn add_plane(
-        self,
-        pairs: PairPlane,
-        most: usize,
-        values: &mut [f64],
-        found: &mut [usize],
-        state: &mut [f64],
-    )
+    // All rows of a plane.
+    #[tactic(auto, using(crate::proofs::Loops::plane_start))]
+    fn add_plane(self, pairs: PairPlane, values: &mut [f64], found: &mut [usize], state: &mut [f64])
         requires sized { length state.old ≡ built_bins self.values.edges }
-        requires room { RowsRoom most pairs.rows.n (length values.old) (length found.old) }
+        requires room { RowRoom pairs.rows.n (length values.old) (length found.old) }
         ensures { state.new ≡ plane_added self.entry.distances.setup (plane_of pairs.entry) 0 pairs.entry.rows.m state.old }
     {
-        let rows = pairs.rows;
-        let mut y = 0;
-        while y < rows.m {
-            let left = rows.m - y;
-            let m = left.min(most);
-            let c = m * rows.n;
-            self.add_rows(
-                pairs.part(y, m),
-                &mut values[..c],
-                &mut found[..c],
-                &mut *state,
-            );
-            y += m;
+        for y in 0..pairs.rows.m {
+            self.add_row(pairs.row(y), values, found, state);
         }
     }
 
-    // All the planes. The room holds at least one row.
+    // All planes.
     #[tactic(auto, using(crate::proofs::Loops::block_start))]
     fn add_planes(
         self,
@@ -508,9 +446,8 @@ impl<'a> Histograms<'a> {
         requires room { RowRoom pairs.planes.rows.n (length values.old) (length found.old) }
         ensures { state.new ≡ block_added self.entry.distances.setup (pairs_of pairs.entry) 0 pairs.entry.planes.l state.old }
     {
-        let most = values.len() / pairs.planes.rows.n;
         for z in 0..pairs.planes.l {
-            self.add_plane(pairs.plane(z), most, values, found, state);
+            self.add_plane(pairs.plane(z), values, found, state);
         }
     }
 

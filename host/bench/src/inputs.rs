@@ -231,6 +231,22 @@ pub fn growth(table: &mut Table) {
             table.row(&format!("grow {n}x{n}x{n} cells, irregular {bins}"), &case);
         }
     }
+    table.head("Blocks auto, histogram: 4x4x4 and 8x8x8 cells. Microseconds a call.");
+    let few = values(16);
+    let kinds = [
+        ("even values 16", EVEN_VALUES),
+        ("irregular values 16", Edges::Irregular(&few)),
+    ];
+    for (n, (kind, value)) in [4, 8].into_iter().flat_map(|n| kinds.map(|k| (n, k))) {
+        let sets = Sets::Blocks(numbers.block(n, [0; 3]), None, [1.0, 0.75, 0.5]);
+        let edges = squares(16, 1.25 * n as f64);
+        let kind_of = Kind::ComponentSumHistogram(value);
+        let case = Case::new(sets, Edges::Irregular(&edges), kind_of);
+        table.row(
+            &format!("grow {n}x{n}x{n} cells, histogram, irregular 16, {kind}"),
+            &case,
+        );
+    }
 }
 
 /// Every kind of run on a stack of 128 KB: one that needs more ends the program.

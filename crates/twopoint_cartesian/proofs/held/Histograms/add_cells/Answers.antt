@@ -16,7 +16,7 @@ pub add_planes-requires-clause-room : goal.add_planes-requires-clause-room
 add_planes-requires-clause-room c =
     let v : length c.args.room.now.values ≡ 64 = search rules in
     let f : length c.args.room.now.found ≡ 64 = search rules in
-    offset_room _ _ _ c.args.at.reached _ c.pairs.ensures _ _ (record { least = omega arith; values = omega arith; found = omega arith })
+    offset_room _ _ _ c.args.at.reached _ c.pairs.ensures _ _ (record { values = omega arith; found = omega arith })
 
 pub merge_state-requires : goal.merge_state-requires
 merge_state-requires c =
