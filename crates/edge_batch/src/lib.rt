@@ -155,7 +155,8 @@ fn settle<const INSIDE: bool>(look: Lookup, x: &[f64], found: &mut [usize])
     }
 }
 
-// The number of each value's bin, one past the bins where there is none; of regular edges it may also be an index past the bins. Nothing is done where the lengths differ.
+// The number of each value's bin, one past the bins where there is none; of regular edges it may also be an index past the bins.
+// Nothing is done where the lengths differ.
 // INSIDE: no value is past an end of the edges; of regular ones such a value has any number.
 #[tactic(auto, unfolding(crate::specs::Batch::numbers_of))]
 pub fn bins_of<const INSIDE: bool>(look: Lookup, x: &[f64], found: &mut [usize])

@@ -3,7 +3,8 @@
 
 ghost use Rattle.std.specs.Prelude.{◌≡◌, ◌+◌, ◌-◌, ◌*◌, ◌≤◌, ◌<◌, not, length};
 ghost use Rattle.definitions.specs.Lists.{at};
-ghost use Rattle.edge_table.specs.Table.{past_end, is_past, ends_of, table_of, place_of, hint_place, bin_hinted, hints_of, hints_for, outside_of, edge_bin, ends_bin, enclosed, shown, holds, step_up, climb, located, located_bin, near_hint, sure_at};
+ghost use Rattle.edge_table.specs.Table.{past_end, is_past, ends_of, table_of, place_of, hint_place, bin_hinted, hints_of, hints_for, outside_of};
+ghost use Rattle.edge_table.specs.Table.{edge_bin, ends_bin, enclosed, shown, holds, step_up, climb, located, located_bin, near_hint, sure_at};
 ghost use Rattle.edge_table.specs.Tabled.{Tabled, Tabled-prop};
 
 use reducer::{BinEdges, BuiltEdges};
@@ -46,7 +47,8 @@ pub struct Table {
     pub offset: f64,
 }
 
-// Edges that can be searched, their table, and hints. These are an array, whose length is known at each lookup: as a slice they cost 3 to 6% with irregular edges.
+// Edges that can be searched, their table, and hints.
+// These are an array, whose length is known at each lookup: as a slice they cost 3 to 6% with irregular edges.
 #[derive(Clone, Copy)]
 pub struct Lookup<'a> {
     pub edges: BuiltEdges<'a>,

@@ -3,7 +3,7 @@
 
 ghost use Rattle.std.specs.Prelude.{◌≡◌, ℕ, ◌*◌, ◌<◌, ◌≤◌, length};
 ghost use Rattle.definitions.specs.Bins.{below};
-ghost use Rattle.definitions.specs.Reducer.{datum_of, component_sum};
+ghost use Rattle.definitions.specs.Reducer.{mean_size, datum_of, component_sum};
 ghost use Rattle.definitions.specs.Run.{place};
 ghost use Rattle.laws.specs.Stores.{bump, add_mean};
 ghost use Rattle.state_refusals.specs.Readings.{state_kind_of};
@@ -188,7 +188,7 @@ fn add_number(n_states: usize, e: usize, s: usize, x: f64, pack: &mut [f64])
 
 // Total is number 0 of a state, weight number 1.
 fn add_mean(n_states: usize, s: usize, value: f64, weight: f64, pack: &mut [f64])
-    requires { (s < n_states) × (n_states * 2 ≤ length pack.old) }
+    requires { (s < n_states) × (n_states * mean_size ≤ length pack.old) }
     ensures { pack.new ≡ add_mean n_states s value weight pack.old }
 {
     add_number(n_states, 0, s, value * weight, pack);

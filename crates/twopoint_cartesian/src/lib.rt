@@ -18,7 +18,11 @@ ghost use Rattle.idx_3d_offset.specs.Walk.{offsets_left};
 ghost use Rattle.spatial.specs.Readings.{block_of, width_of, sets_of};
 ghost use Rattle.twopoint_cartesian.specs.Held.{axes_of, fields_of, Near, AllReady, Placed, Holds};
 ghost use Rattle.twopoint_cartesian.specs.Readings.{auto_run, cross_run};
-ghost use Rattle.twopoint_cartesian.specs.Cells.{row_of, plane_of, pairs_of, row_at, plane_at, pairs_at, fields_in, planes_of, reading_in, datum_in, row_value, weight_added, weights_added, RowRoom, scalar_of, cells_in_mean, row_in_mean, plane_in_mean, block_in_mean, offset_mean, mean_state, row_added, plane_added, block_added, overlap_of, offset_cells, fresh, StateFits, state_merged, merged_in, overlap_in, overlaps_left, overlap_added, overlaps_added, seq_of};
+ghost use Rattle.twopoint_cartesian.specs.Cells.{row_of, plane_of, pairs_of, row_at, plane_at, pairs_at, fields_in, planes_of, reading_in, datum_in};
+ghost use Rattle.twopoint_cartesian.specs.Cells.{row_value, weight_added, weights_added, RowRoom, scalar_of, cells_in_mean, row_in_mean};
+ghost use Rattle.twopoint_cartesian.specs.Cells.{plane_in_mean, block_in_mean, offset_mean, mean_state, row_added, plane_added, block_added};
+ghost use Rattle.twopoint_cartesian.specs.Cells.{overlap_of, offset_cells, fresh, StateFits, state_merged, merged_in, overlap_in, overlaps_left};
+ghost use Rattle.twopoint_cartesian.specs.Cells.{overlap_added, overlaps_added, seq_of};
 
 mod held;
 
@@ -396,7 +400,8 @@ impl<'a> Means<'a> {
     // All of them, in order.
     fn fill(self, all: Overlaps, scratch: &mut [f64])
         requires { self.distances.setup.n_states * mean_size ≤ length scratch.old }
-        ensures { scratch.new ≡ overlaps_added self.entry.distances.setup (width_of self.entry.distances.width) mean_size (overlaps_left all.entry) scratch.old }
+        ensures { scratch.new ≡ overlaps_added self.entry.distances.setup (width_of self.entry.distances.width) mean_size
+            (overlaps_left all.entry) scratch.old }
     {
         for at in all {
             self.add_mean(at, scratch);
@@ -496,7 +501,8 @@ fn fill_histogram<'a>(
 )
     requires kind { distances.setup.reducer ≡ ComponentSumHistogram edges }
     requires used { distances.setup.n_states * built_bins edges ≤ length scratch.old }
-    ensures { scratch.new ≡ overlaps_added distances.entry.setup (width_of distances.entry.width) (built_bins edges.entry) (overlaps_left all.entry) scratch.old }
+    ensures { scratch.new ≡ overlaps_added distances.entry.setup (width_of distances.entry.width) (built_bins edges.entry)
+        (overlaps_left all.entry) scratch.old }
 {
     let table = edge_table::table_of(edges);
     let mut hints = [0u8; 4096];
