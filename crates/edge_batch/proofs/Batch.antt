@@ -25,7 +25,7 @@ use Rattle.edge_table.specs.Table.{hint_place, place_of, near_hint, bit, past_en
 use Rattle.edge_table.specs.Tabled.{Tabled}
 use Rattle.edge_table.proofs.Lookups.{outside, bin_past, enclosed_bin, located_found}
 use Rattle.edge_table.specs.declared.Lookup.{Lookup}
-use Rattle.edge_batch.specs.Batch.{number_or, quotient, is_past, number_for, sure_number, AtMost, each, sure_in, sure, settled, settled_or, batch_number, number_in, numbers_of}
+use Rattle.edge_batch.specs.Batch.{number_or, quotient, is_past, number_for, sure_number, AtMost, each, sure_in, sure, settled, settled_or, batch_number, number_by_in, number_by, number_in, numbers_of}
 use Rattle.edge_batch.proofs.Loops.{each_after, each_value}
 use Rattle.edge_batch.proofs.Cuts.{sure_within}
 
@@ -127,6 +127,16 @@ module _ (inside : Bool) (look : Lookup) (t : Tabled look.edges look.table.ends)
       go (Irregular l) u = pick (sure_at l.now look.hints.now x (place_of inside look.table x)) _ _ _ refl (sure_found l look.hints.now look.table x u f inside) (settled_found l look.hints.now look.table x u f inside)
 
 -- ---- a batch
+-- one value by itself
+pub number_by_law : (inside : Bool) (look : Lookup) (x : Float) → fits binary64 x ≡ true → number_by inside look x ≡ number_in inside look.edges x
+number_by_law inside look x f = go look.edges refl
+  where
+    go : (d : BuiltEdges) → look.edges ≡ d → number_by_in inside d look x ≡ number_in inside d x
+    go (Regular e) q = refl
+    go (Irregular list) q =
+        ap (λ (d : BuiltEdges). settled_or inside look x (sure_in inside d look.table look.hints.now x)) (sym q) ∙ batch_number_law inside look look.tabled x f
+        ∙ ap (λ (d : BuiltEdges). number_in inside d x) q
+
 pub numbers_map : (inside : Bool) (edges : BuiltEdges) (x : List Float) (found : List ℕ) → length found ≡ length x → numbers_of inside edges x found ≡ map (number_in inside edges) x
 unfolding numbers_of
 numbers_map inside edges x found h = rw (eq-eqb (length found) (length x) h)

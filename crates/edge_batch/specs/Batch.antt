@@ -75,6 +75,14 @@ settled_or inside look x n = cond (ltb n 8192) n (settled inside look.edges look
 abbrev pub batch_number : Bool → Lookup → Float → ℕ
 batch_number inside look x = settled_or inside look x (sure inside look x)
 
+-- a value's number by itself: of irregular edges by its hint, if that is shown right
+abbrev pub number_by_in : Bool → BuiltEdges → Lookup → Float → ℕ
+number_by_in inside (Regular e) look x = number_for inside e x
+number_by_in inside (Irregular list) look x = settled_or inside look x (sure_at list.now look.hints.now x (place_of inside look.table x))
+
+abbrev pub number_by : Bool → Lookup → Float → ℕ
+number_by inside look x = number_by_in inside look.edges look x
+
 -- a value's number by the edges' own lookup
 abbrev pub number_in : Bool → BuiltEdges → Float → ℕ
 number_in inside (Regular e) x = number_for inside e x

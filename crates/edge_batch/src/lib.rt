@@ -5,7 +5,7 @@
 
 ghost use Rattle.std.specs.Prelude.{◌≡◌, ◌<◌, length};
 ghost use Rattle.edge_table.specs.Table.{place_of, sure_at};
-ghost use Rattle.edge_batch.specs.Batch.{guess_of, is_past, number_for, sure_cut, sure_number, AtMost, each, sure, settled, settled_or, numbers_of};
+ghost use Rattle.edge_batch.specs.Batch.{guess_of, is_past, number_for, sure_cut, sure_number, AtMost, each, sure, settled, settled_or, number_by, numbers_of};
 
 use bins::RegularBinEdges;
 use edge_table::{Ends, Lookup, NO_BIN, NOT_SETTLED, Table};
@@ -139,6 +139,25 @@ fn settled_number<const INSIDE: bool>(edges: BuiltEdges, ends: Ends, x: f64) -> 
                 return h;
             }
             edge_table::located_bin(list, x).unwrap_or(NO_BIN)
+        }
+    }
+}
+
+// The number of one value's bin: the edges' own, as bins_of gives it. Of few values this takes less time than a batch's loops.
+#[tactic(auto, unfolding(crate::specs::Batch::settled_or))]
+pub fn number_by<const INSIDE: bool>(look: Lookup, x: f64) -> usize
+    ensures { result ≡ number_by INSIDE look.entry x }
+{
+    match look.edges {
+        BinEdges::Regular(e) => number_for::<INSIDE>(e, x),
+        BinEdges::Irregular(list) => {
+            let hints = look.hints;
+            let place = edge_table::place_of::<INSIDE>(look.table, x);
+            let bin = edge_table::sure_at(list, &hints[..], x, place);
+            if bin < SETTLED_LIMIT {
+                return bin;
+            }
+            settled_number::<INSIDE>(look.edges, look.table.ends, x)
         }
     }
 }

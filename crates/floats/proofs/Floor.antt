@@ -1,9 +1,13 @@
 -- A whole number that is not above x, where the next one is: x cut to a whole number.
-use Rattle.std.proofs.Common.{◌≡◌, ℕ, ◌+◌, ◌*◌, ◌/◌, ◌<◌, ◌≤◌, Bool, true, false, ◌&&◌, ◌||◌, eqb, ltb, pos, sym, refl, ap, ◌∙◌, true≢false, le_trans, le_of_eq, lt_of_lt_of_le, div-lt_iff_lt-mul, lt_of_mul-lt-mul_right, le-div_iff_mul-le, zero-mul, mul-one, mul_right_comm, le_of_mul-le-mul_right, arith, ltb-true, eqb-true}
-use lib.Ieee.{Float, nan, inf, fin, binary64, up, down, lt, le, eq, of_int, to_unsigned}
+use Rattle.std.proofs.Common.{◌≡◌, ℕ, ◌+◌, ◌*◌, ◌/◌, ◌^◌, ◌<◌, ◌≤◌, Bool, true, false, ◌&&◌, ◌||◌, T, eqb, ltb, pos, sym, refl, ap, ◌∙◌, true≢false, le_trans, le_of_eq, lt_of_lt_of_le, div-lt_iff_lt-mul, lt_of_mul-lt-mul_right, le-div_iff_mul-le, zero-mul, mul-one, mul_right_comm, le_of_mul-le-mul_right, arith, le→leb, ltb-true, eqb-true}
+use lib.Ieee.{Float, nan, inf, fin, binary64, up, down, lt, le, eq, of_int, in_float, to_unsigned}
 use lib.Ieee.Exact.{HasValue}
 use lib.Ieee.Back.{round_whole}
 use lib.Ieee.Fits.{down_pos}
+
+pub whole_exact : (n : ℕ) → n ≤ 2 ^ 53 → T (in_float binary64 (pos n))
+unfolding in_float
+whole_exact n h = le→leb n (2 ^ 53) h
 
 whole_value : (n : ℕ) → n ≤ 4096 → HasValue (of_int binary64 (pos n)) false n 1
 unfolding of_int

@@ -7,7 +7,7 @@ use Rattle.refusals.specs.declared.Refusal.{Refusal}
 use Rattle.refusals.specs.Numbers.{refusal_number, number_of}
 use Rattle.refusals.proofs.Answers.{number_nonzero, number_carried}
 use mathlib.Core.Bool.{Bool, true, false, not, cond, ◌&&◌, ◌||◌, true≢false}
-use mathlib.Core.List.{List}
+use mathlib.Core.List.{List, ◌∷◌}
 use Prim.Native.Nat.{ℕ, ◌*◌, ◌≤◌}
 use native.Mathlib.Omega.{arith}
 use lib.Dec.{T, leb, ltb, eqb}
@@ -20,7 +20,7 @@ use Rattle.definitions.specs.Reducer.{state_kind, kind_size}
 use Rattle.definitions.specs.Reducer as kinds
 use Rattle.definitions.specs.Run.{Sets, one_points, two_points, one_block, two_blocks, Run, merged}
 use Rattle.definitions.specs.Rules as rules
-use Rattle.definitions.specs.Rules.{rule, refusal, over_sets, over_state, over_pack, edge_rules, kind_rules, set_rules, pair_rules, run_rules, step}
+use Rattle.definitions.specs.Rules.{rule, refusal, over_sets, over_state, over_pack, edge_rules, edges_call_rules, kind_rules, set_rules, pair_rules, run_rules, step}
 use Rattle.laws.specs.Refusals.{or_else}
 use Rattle.laws.proofs.Refusals.{numbered, refusal_append}
 use Rattle.state_refusals.specs.declared.PackShape.{PackShape}
@@ -118,8 +118,10 @@ seven : (t : Bool) (x : ℕ) → cond t 7 x ≡ 0 → (t ≡ false) × (x ≡ 0)
 seven true x h = absurd (omega arith)
 seven false x h = (refl, h)
 
--- the shape and the slice of an accepted run
+-- what an accepted run knows of its edges, kind and shape
 pub record Drivable (spec : RunSpec) (len : ℕ) : Type 0 where
+  pub edges : refusal (edges_call_rules (edges_of spec.edges)) ≡ 0
+  pub values : refusal (rule 7 (over_state (state_kind (kind_of spec.kind))) ∷ kind_rules (kind_of spec.kind)) ≡ 0
   pub few : bins (edges_of spec.edges) ≤ 256
   pub small : kind_size (kind_of spec.kind) ≤ 256
   pub states : spec.shape.pack.n_states ≡ bins (edges_of spec.edges)
@@ -128,7 +130,7 @@ pub record Drivable (spec : RunSpec) (len : ℕ) : Type 0 where
   pub within : bins (edges_of spec.edges) * kind_size (kind_of spec.kind) ≤ len
 
 -- of the numbers n and m of the sets' own rules and of the rules on their pairs
-pub own_accepted : (n m : ℕ) (spec : RunSpec) (len : ℕ) → run_number n m spec len ≡ 0 → (n ≡ 0) × Drivable spec len
+pub own_accepted : (n m : ℕ) (spec : RunSpec) (len : ℕ) → run_number n m spec len ≡ 0 → (n ≡ 0) × (m ≡ 0) × Drivable spec len
 unfolding run_number
 own_accepted n m spec len h =
     let e = edges_of spec.edges in
@@ -145,7 +147,10 @@ own_accepted n m spec len h =
     let i : pack.n_states ≡ bins e = eqb-true pack.n_states (bins e) g.0 in
     let j : pack.state_size ≡ kind_size k = eqb-true pack.state_size (kind_size k) g.1 in (
       a.0,
+      d.0,
       record {
+        edges = (rw o.0) ∙ b.0;
+        values = (rw (kind_over (state_kind k), o.1)) ∙ c.0;
         few = ltb-false 256 (bins e) o.0;
         small = ltb-false 256 (kind_size k) o.1;
         states = i;
@@ -159,13 +164,14 @@ own_accepted n m spec len h =
 pub record Accepted (sets : Sets) (spec : RunSpec) (len : ℕ) : Type 0 where
   pub limits : over_sets sets ≡ false
   pub own : refusal (set_rules sets) ≡ 0
+  pub paired : refusal (pair_rules sets) ≡ 0
   pub drivable : Drivable spec len
 
 pub accepted : (sets : Sets) (spec : RunSpec) (len : ℕ) → refusal (run_rules (run_of sets spec) len) ≡ 0 → Accepted sets spec len
 accepted sets spec len h =
     let r = seven (over_sets sets) _ (sym (numbers_law sets spec len) ∙ h) in
     let a = own_accepted (refusal (set_rules sets)) (refusal (pair_rules sets)) spec len r.1 in
-    record { limits = r.0; own = a.0; drivable = a.1 }
+    record { limits = r.0; own = a.0; paired = a.1; drivable = a.2 }
 
 -- ---- what a run answers and leaves; a is what judged it
 module _ {A : Type 0} (run : Run) (s : List Float) (a : Result A Refusal) (h : number_of a ≡ refusal (run_rules run (length s))) where

@@ -1,3 +1,4 @@
+pub mod Built
 pub mod Drive
 pub mod Sets
 pub mod Setups

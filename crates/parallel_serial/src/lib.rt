@@ -2,12 +2,14 @@
 #![tactic(auto)]
 
 ghost use Rattle.std.specs.Prelude.{◌≡◌, ◌*◌, ◌≤◌, length, take};
+ghost use Rattle.parallel_serial.specs.Built.{built_of, reducer_of, built_edges, built_reducer};
 ghost use Rattle.parallel_serial.specs.Drive.{zero_pack, added_scratch};
 ghost use Rattle.reducer.specs.Consume.{reducer_size};
 ghost use Rattle.parallel_serial.specs.Sets.{first_of, second_of};
 ghost use Rattle.parallel_serial.specs.Usable.{UsableRun, UsableRun-prop};
 
-use reducer::{BuiltEdges, BuiltReducer, Edges, Kind, PairOperation};
+use bins::RegularBinEdges;
+use reducer::{BinEdges, BuiltEdges, BuiltReducer, Edges, Kind, PairOperation, Reducer};
 use state_refusals::PackShape;
 
 // The pack's shape as the caller states it, and the team.
@@ -66,6 +68,31 @@ pub struct Setup<'a> {
     ghost usable: { UsableRun edges reducer n_states } by { UsableRun-prop edges reducer n_states },
 }
 
+// ---- what is built of edges and kinds as stated
+
+// Irregular edges stay as they are, refused ones too. Refused regular edges are none: irregular ones over no list.
+pub fn build_edges<'a>(edges: Edges<'a>) -> BuiltEdges<'a>
+    ensures { built_of result ≡ built_edges edges.entry }
+{
+    match edges {
+        BinEdges::Regular(e) => match RegularBinEdges::new(e.min, e.max, e.n_bins) {
+            Ok(e) => BinEdges::Regular(e),
+            Err(_) => BinEdges::Irregular(&[]),
+        },
+        BinEdges::Irregular(list) => BinEdges::Irregular(list),
+    }
+}
+
+pub fn build_reducer<'a>(kind: Kind<'a>) -> BuiltReducer<'a>
+    ensures { reducer_of result ≡ built_reducer kind.entry }
+{
+    match kind {
+        Reducer::Comp0Mean => Reducer::Comp0Mean,
+        Reducer::ComponentSumMean => Reducer::ComponentSumMean,
+        Reducer::ComponentSumHistogram(e) => Reducer::ComponentSumHistogram(build_edges(e)),
+    }
+}
+
 // ---- scratch
 
 // Scratch is added to the front of the caller's pack, caller's number first; nothing where it is longer.
@@ -94,7 +121,8 @@ pub trait ReductionSpec {
         ensures { scratch.new ≡ contributed self.now setup.now scratch.old };
 }
 
-// An accepted run: the used prefix of a scratch pack, added to the caller's pack.
+// An accepted run: the used prefix of a scratch pack, added to the caller's pack. Not inlined: a refused call has no room for scratch on its stack.
+#[inline(never)]
 pub fn drive_reduce<R: ReductionSpec>(run: &R, setup: &Setup, pack: &mut [f64])
     ensures { pack.new ≡ added_scratch pack.old (R.contributed run.now setup.now (take (setup.now.n_states * reducer_size setup.now.reducer) zero_pack)) }
 {

@@ -22,6 +22,10 @@ after n l = record { words = drop n l.words; floats = drop n l.floats }
 abbrev pub next_word : Left → ℕ
 next_word l = slice_index l.words 0
 
+-- the next three
+abbrev pub next_three : Left → List ℕ
+next_three l = next_word l ∷ next_word (after 1 l) ∷ next_word (after 1 (after 1 l)) ∷ []
+
 -- the next float: a NaN past the end
 abbrev pub next_float : Left → Float
 next_float l = unwrap_or (slice_get l.floats 0) (of_bits binary64 0x7ff8_0000_0000_0000)
@@ -40,9 +44,9 @@ floats_of ws = map (of_bits binary64) ws
 abbrev pub words_of : List ℕ → List ℕ
 words_of b = map (from_le_bytes w64) (first_chunks 8 (length b / 8) b)
 
--- a call's number and the slice after stand there
+-- a call's number and the slice after are all that stands there
 abbrev pub HasAnswer : ℕ → List Float → Left → Type 0
-HasAnswer number slice l = (next_word l ≡ number) × ((after 1 l).words ≡ bits_of slice)
+HasAnswer number slice l = l.words ≡ number ∷ bits_of slice
 
 -- a list over the front of another, as far as that goes
 abbrev pub overlaid : {A : Type 0} → List A → List A → List A

@@ -95,6 +95,10 @@ fn lent<'a>(record: &mut Record, n: usize, room: &'a mut [f64]) -> &'a mut [f64]
 fn slice_agrees(record: &mut Record, answer: Result<(), Refusal>, slice: &[f64]) -> bool
     ensures { IsTrue result ↔ HasAnswer (number_of answer) slice.now (left record.old) }
 {
+    // A word past the record's end is 0, which is the number of an accepted call.
+    if record.words.is_empty() {
+        return false;
+    }
     record.word() == u64::from(refusals::number_of(answer)) && record.has_floats(slice)
 }
 
@@ -176,11 +180,11 @@ fn read_run_head(record: &mut Record) -> RunHead {
     RunHead { cross, op, form }
 }
 
-// n stated stride, the columns' lengths, the columns
+// n stated stride, the columns' lengths, the columns; the stride is given where `stated` is 1
 fn read_set<'a>(record: &mut Record<'a>) -> PointSet<'a> {
     let n_points = record.count();
-    let stated = record.word();
-    let stride = capi_words::stride_from(stated, record.count());
+    let stated = record.word() == 1;
+    let stride = capi_words::stride_from(u64::from(stated), record.count());
     let lengths = [record.count(), record.count(), record.count()];
     PointSet {
         positions: record.floats(lengths[0]),
@@ -240,12 +244,20 @@ fn read_edges<'a>(record: &mut Record<'a>) -> Edges<'a> {
     Edges::Irregular(record.floats(n))
 }
 
-// A histogram's value edges stand in the record.
+// The value edges of a form without any of its own: the regular ones that the next words would be, which are read again after, or no edges.
+fn edges_ahead<'a>(mut record: Record<'a>) -> Edges<'a> {
+    match read_edges(&mut record) {
+        Edges::Regular(edges) => Edges::Regular(edges),
+        Edges::Irregular(_) => Edges::Irregular(&[]),
+    }
+}
+
+// A histogram's value edges stand in the record where its form is 2.
 fn read_kind<'a>(record: &mut Record<'a>, form: u64) -> Kind<'a> {
     let edges = if form == 2 {
         read_edges(record)
     } else {
-        Edges::Irregular(&[])
+        edges_ahead(*record)
     };
     capi_words::kind_from(form, edges)
 }
@@ -352,16 +364,13 @@ struct Head {
     n: u64,
 }
 
-fn read_word<F: Read>(file: &mut F) -> io::Result<u64> {
-    let mut bytes = [0; 8];
-    file.read_exact(&mut bytes)?;
-    Ok(u64::from_le_bytes(bytes))
-}
-
-// None where the list ends.
+// None where the list ends. Both words by one read.
 fn read_head<F: Read>(file: &mut F) -> Option<Head> {
-    let code = read_word(file).ok()?;
-    let n = read_word(file).ok()?;
+    let mut bytes = [0; 16];
+    file.read_exact(&mut bytes).ok()?;
+    let (eights, _) = bytes.as_chunks::<8>();
+    let code = u64::from_le_bytes(eights[0]);
+    let n = u64::from_le_bytes(eights[1]);
     let operation = Operation::try_from(code).ok();
     Some(Head { operation, n })
 }

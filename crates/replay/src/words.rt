@@ -2,7 +2,7 @@
 
 ghost use Rattle.std.specs.Prelude.{◌≡◌, ◌↔◌, map, IsTrue};
 ghost use Rattle.std.specs.Int.{w64, cast_signed, from_le_bytes};
-ghost use Rattle.replay.specs.Records.{left, after, next_word, next_float, next_floats, bits_of, words_of, floats_of, overlaid};
+ghost use Rattle.replay.specs.Records.{left, after, next_word, next_three, next_float, next_floats, bits_of, words_of, floats_of, overlaid};
 
 // What is left of a record: its words, and the floats of the same bits. Past its end a word is 0, a float a NaN, and a slice is as long as the record has it.
 #[derive(Clone, Copy)]
@@ -61,11 +61,12 @@ impl<'a> Record<'a> {
         &floats[..n.min(floats.len())]
     }
 
-    // Whether these words are what is left.
-    pub fn has_words(self, words: &[u64]) -> bool
-        ensures { IsTrue result ↔ (self.entry.words.now ≡ words.now) }
+    // Whether these are the next words; what stands after them makes no difference.
+    pub fn has_words(&mut self, words: &[u64; 3]) -> bool
+        ensures { IsTrue result ↔ (next_three (left self.old) ≡ words.now) }
     {
-        self.words == words
+        let next = [self.word(), self.word(), self.word()];
+        next == *words
     }
 
     // Whether the bits of these numbers are what is left, a NaN's its own.

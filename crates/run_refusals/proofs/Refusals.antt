@@ -97,7 +97,7 @@ module _ (sets pairs : ℕ) (spec : RunSpec) (len n size : ℕ) (p : n ≡ bins_
 
     pub built_usable : UsableRun be rd n
     built_usable =
-        let d = (own_accepted sets pairs spec len (sym h)).1 in
+        let d = (own_accepted sets pairs spec len (sym h)).2 in
         record {
           edges_usable = x.1;
           values_usable = y.1;

@@ -1,7 +1,7 @@
 // One state of a pack seen through its length and stride.
 #![tactic(auto)]
 
-ghost use Rattle.std.specs.Prelude.{◌≡◌};
+ghost use Rattle.std.specs.Prelude.{◌≡◌, ◌*◌, ltb};
 ghost use Rattle.state_view.specs.View.{seen};
 
 // Number e of the state is e strides past the slice's first number.
@@ -12,8 +12,18 @@ pub struct AccumStateView<'a> {
     pub stride: usize,
 }
 
-// Number e of the state whose first number is the slice's first; none where the state or the slice has none.
-// Any numbers may be passed: a place that is no usize is past every slice.
+// Whether number e lies past place `last`. By division: no product wraps, and a loop over e divides once, where it would test each product.
+#[tactic(auto, using(crate::proofs::Places::over_none, crate::proofs::Places::over_by_division))]
+fn is_past(e: usize, stride: usize, last: usize) -> bool
+    ensures { result ≡ ltb last (e * stride) }
+{
+    if stride == 0 {
+        return false;
+    }
+    last / stride < e
+}
+
+// Number e of the state whose first number is the slice's first; none where the state or the slice has none. Any numbers may be passed.
 #[tactic(auto, unfolding(crate::specs::View::seen))]
 pub fn strided_number(data: &[f64], len: usize, stride: usize, e: usize) -> Option<f64>
     ensures { result ≡ seen «data».now len stride e }
@@ -21,7 +31,11 @@ pub fn strided_number(data: &[f64], len: usize, stride: usize, e: usize) -> Opti
     if len <= e {
         return None;
     }
-    data.get(e.checked_mul(stride)?).copied()
+    let last = data.len().checked_sub(1)?;
+    if is_past(e, stride, last) {
+        return None;
+    }
+    Some(data[e * stride])
 }
 
 impl<'a> AccumStateView<'a> {

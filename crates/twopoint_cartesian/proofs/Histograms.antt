@@ -9,6 +9,8 @@ use native.Mathlib.Omega.{arith}
 use lib.Dec.{ltb}
 use lib.ListN.{length, get_or, set, length-map}
 use lib.Ieee.{Float, binary64, mul}
+use lib.Ieee.Bits.{is_true}
+use lib.Ieee.Fits.{add-fits}
 use borrow.Author.Tests.{lt-ltb, le-ltb}
 use Rattle.definitions.specs.Bins.{below}
 use Rattle.definitions.specs.Lists.{at, overwritten}
@@ -23,8 +25,8 @@ use Rattle.reducer.specs.Readings.{BuiltEdges, BuiltReducer, op_of, the_datum, r
 use Rattle.reducer.specs.Consume as consume
 use Rattle.reducer.specs.Consume.{built_bins, add_in, consumed}
 use Rattle.reducer.proofs.Placewise.{room, kept_bin, consumed_length}
-use Rattle.edge_batch.specs.Batch.{number_or, number_in, numbers_of}
-use Rattle.edge_batch.proofs.Batch.{numbers_map, index_in, index_number, index_bin}
+use Rattle.edge_batch.specs.Batch.{number_or, number_by, number_in, numbers_of}
+use Rattle.edge_batch.proofs.Batch.{numbers_map, number_by_law, index_in, index_number, index_bin}
 use Rattle.idx_3d_offset.specs.declared.Idx3DOffset.{Idx3DOffset}
 use Rattle.spatial.specs.declared.Block.{Block}
 use Rattle.spatial.specs.Readings.{block_of}
@@ -125,6 +127,13 @@ module _ (by : Histograms) (len : ℕ) (sized : len ≡ built_bins by.values.edg
   row_keeps : (r : Row) (n : ℕ) (t : List Float) → length t ≡ len → length (row_added setup r 0 n t) ≡ len
   unfolding row_added
   row_keeps r n t p = loop_keeps (λ x t. cells_added setup r.a r.b (r.i + x) (r.j + x) t) (λ t. length t ≡ len) (λ x t p. keeps r x t p) 0 n t p
+
+  -- pair x of a row, whose value was looked up by itself
+  pub pair_done : (r : Row) (x : ℕ) (d : definitions.Datum) (v : Float) (b : ℕ) (s q : List Float) → length s ≡ len → d ≡ datum_in setup r x → v ≡ component_sum d → b ≡ number_by false by.values v
+      → q ≡ weight_added b d.weight s → q ≡ cells_added setup r.a r.b (r.i + x) (r.j + x) s
+  unfolding cells_added
+  pair_done r x d v b s q es ed ev eb e =
+      e ∙ ap (λ (k : ℕ). weight_added k d.weight s) (eb ∙ ap (number_by false by.values) ev ∙ number_by_law false by.values (component_sum d) (is_true _ (add-fits binary64 _ _))) ∙ one_weight by.values.edges d s (es ∙ sized) (omega (arith, es, small)) ∙ (λ i. consumed (sym by.histogram i) 1 0 (ed i) s)
 
   -- a row whose bins were found
   module _ (r : Row) (n : ℕ) (fs : List ℕ) (bins : (x : ℕ) → x < n → get_or fs x 0 ≡ bin (row_value setup r x)) where

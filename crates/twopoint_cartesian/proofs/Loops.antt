@@ -8,7 +8,7 @@ use native.Mathlib.Omega.{arith}
 use lib.Ieee.{Float}
 use Rattle.laws.specs.Loops.{loop_left}
 use Rattle.parallel_serial.specs.declared.Setup.{Setup}
-use Rattle.twopoint_cartesian.specs.Cells.{Row, Plane, Pairs, row_at, plane_at, row_added, plane_added, block_added}
+use Rattle.twopoint_cartesian.specs.Cells.{Row, Plane, Pairs, row_at, plane_at, cells_added, row_added, plane_added, block_added}
 
 loop_join : {S : Type 0} (body : ℕ → S → S) (k m l : ℕ) (s : S) → loop_left body k (m + l) s ≡ loop_left body (k + m) l (loop_left body k m s)
 loop_join body k zero l s = λ t. loop_left body (sym (add-zero k) t) (zero-add l t) s
@@ -32,6 +32,20 @@ pub row_place : (i y r s : ℕ) → i + (y + r) * s ≡ i + y * s + r * s
 row_place i y r s = omega (arith, add-mul y r s)
 
 module _ (setup : Setup) where
+  module _ (r : Row) (k : ℕ) where
+    pub row_start : (s : List Float) → row_added setup r 0 (k - 0) s ≡ row_added setup r 0 k s
+    row_start s = ap (λ (m : ℕ). row_added setup r 0 m s) (sub-zero k)
+
+    module _ (z : List Float) (x : ℕ) (s : List Float) where
+      -- pair x
+      pub row_turn : (q : List Float) → x < k → q ≡ cells_added setup r.a r.b (r.i + x) (r.j + x) s → row_added setup r x (k - x) s ≡ z → row_added setup r (x + 1) (k - (x + 1)) q ≡ z
+      unfolding row_added
+      row_turn q h e = left_turn (λ x s. cells_added setup r.a r.b (r.i + x) (r.j + x) s) k z x s q h e
+
+      pub row_end : k ≤ x → row_added setup r x (k - x) s ≡ z → s ≡ z
+      unfolding row_added
+      row_end = left_done (λ x s. cells_added setup r.a r.b (r.i + x) (r.j + x) s) k z x s
+
   module _ (p : Plane) (k : ℕ) where
     pub plane_start : (s : List Float) → plane_added setup p 0 (k - 0) s ≡ plane_added setup p 0 k s
     plane_start s = ap (λ (m : ℕ). plane_added setup p 0 m s) (sub-zero k)

@@ -18,7 +18,7 @@ ghost use Rattle.idx_3d_offset.specs.Walk.{offsets_left};
 ghost use Rattle.spatial.specs.Readings.{block_of, width_of, sets_of};
 ghost use Rattle.twopoint_cartesian.specs.Held.{axes_of, fields_of, Near, AllReady, Placed, Holds};
 ghost use Rattle.twopoint_cartesian.specs.Readings.{auto_run, cross_run};
-ghost use Rattle.twopoint_cartesian.specs.Cells.{row_of, plane_of, pairs_of, row_at, plane_at, pairs_at, fields_in, planes_of, reading_in, datum_in};
+ghost use Rattle.twopoint_cartesian.specs.Cells.{row_of, plane_of, pairs_of, row_at, plane_at, pairs_at, fields_in, planes_of, reading_in, datum_in, cells_added};
 ghost use Rattle.twopoint_cartesian.specs.Cells.{row_value, weight_added, weights_added, RowRoom, scalar_of, cells_in_mean, row_in_mean};
 ghost use Rattle.twopoint_cartesian.specs.Cells.{plane_in_mean, block_in_mean, offset_mean, mean_state, row_added, plane_added, block_added};
 ghost use Rattle.twopoint_cartesian.specs.Cells.{overlap_of, offset_cells, fresh, StateFits, state_merged, merged_in, overlap_in, overlaps_left};
@@ -411,10 +411,36 @@ impl<'a> Means<'a> {
 
 // ---- histograms
 
+// A row of fewer pairs is added pair by pair: the loops over a row's values, bins and weights take longer.
+const FEW_PAIRS: usize = 4;
+
 impl<'a> Histograms<'a> {
+    // Pair x of a row.
+    fn add_pair(self, pairs: PairRow, x: usize, state: &mut [f64])
+        requires place { x < pairs.n }
+        requires sized { length state.old ≡ built_bins self.values.edges }
+        ensures { state.new ≡ cells_added self.entry.distances.setup (row_of pairs.entry).a (row_of pairs.entry).b (pairs.entry.i + x) (pairs.entry.j + x) state.old }
+    {
+        let datum = pairs.datum_at(self.distances.setup, x);
+        let value = reducer::component_sum(datum);
+        let bin = edge_batch::number_by::<false>(self.values, value);
+        add_weight(bin, datum.weight, state);
+    }
+
+    // The pairs of a row, one after the other.
+    #[tactic(auto, using(crate::proofs::Loops::row_start))]
+    fn add_pairs(self, pairs: PairRow, state: &mut [f64])
+        requires sized { length state.old ≡ built_bins self.values.edges }
+        ensures { state.new ≡ row_added self.entry.distances.setup (row_of pairs.entry) 0 pairs.entry.n state.old }
+    {
+        for x in 0..pairs.n {
+            self.add_pair(pairs, x, &mut *state);
+        }
+    }
+
     // The pairs of a row: their values, the values' bins, and then their weights. All but the state is room.
     // Its parts are lent one by one: a struct of them would be taken apart at each call.
-    fn add_row(self, pairs: PairRow, values: &mut [f64], found: &mut [usize], state: &mut [f64])
+    fn add_batch(self, pairs: PairRow, values: &mut [f64], found: &mut [usize], state: &mut [f64])
         requires sized { length state.old ≡ built_bins self.values.edges }
         requires room { RowRoom pairs.n (length values.old) (length found.old) }
         ensures { state.new ≡ row_added self.entry.distances.setup (row_of pairs.entry) 0 pairs.entry.n state.old }
@@ -424,6 +450,19 @@ impl<'a> Histograms<'a> {
         pairs.gather(self.distances.setup, &mut *values);
         edge_batch::bins_of::<false>(self.values, &*values, &mut *found);
         pairs.add_weights(&*found, state);
+    }
+
+    // The pairs of a row, few or many.
+    fn add_row(self, pairs: PairRow, values: &mut [f64], found: &mut [usize], state: &mut [f64])
+        requires sized { length state.old ≡ built_bins self.values.edges }
+        requires room { RowRoom pairs.n (length values.old) (length found.old) }
+        ensures { state.new ≡ row_added self.entry.distances.setup (row_of pairs.entry) 0 pairs.entry.n state.old }
+    {
+        if pairs.n < FEW_PAIRS {
+            self.add_pairs(pairs, state)
+        } else {
+            self.add_batch(pairs, values, found, state)
+        }
     }
 
     // All rows of a plane.

@@ -27,13 +27,13 @@ use Rattle.laws.proofs.Loops.{run_append}
 use Rattle.reducer.specs.declared.PairOperation.{PairOperation}
 use Rattle.reducer.specs.declared.Reducer.TheVariants.{Comp0Mean, ComponentSumMean, ComponentSumHistogram}
 use Rattle.reducer.specs.Readings.{BuiltEdges, BuiltReducer, op_of}
-use Rattle.reducer.specs.Consume.{built_bins, built_bin, has_room, add_in, consumed_at, consumed}
+use Rattle.reducer.specs.Consume.{built_bins, built_bin, has_room, add_in, value_bin, consumed_at, consumed}
 use Rattle.reducer.proofs.Placewise.{kept_bin}
 use Rattle.edge_table.specs.declared.Ends.{Ends}
 use Rattle.edge_table.specs.declared.Lookup.{Lookup}
-use Rattle.edge_table.specs.Table.{past_end, ends_bin}
+use Rattle.edge_table.specs.Table.{past_end, ends_of, ends_bin}
 use Rattle.edge_table.specs.Tabled.{EndsOf, Tabled}
-use Rattle.edge_table.proofs.Lookups.{bin_past, found_bin}
+use Rattle.edge_table.proofs.Lookups.{bin_past, found_bin, tabled_ends}
 use Rattle.edge_batch.specs.Batch.{number_or, number_in}
 use Rattle.edge_batch.proofs.Batch.{index_in, index_number, index_bin, inside_bin}
 use Rattle.parallel_serial.specs.declared.Setup.{Setup}
@@ -357,6 +357,13 @@ pub pair_at_law : (setup : Setup) (ends : Ends) (a b : points.Point) (x : Float)
 unfolding built_pair
 pair_at_law setup ends a b x r p t e h k =
     k ∙ ap (λ (o : Option ℕ). pair_in o (datum_of (op_of setup.op) a.rd b.rd)) (found_bin setup.edges ends (squared_diff_norm a b) r (h ∙ ap (ends_bin setup.edges ends) e) t (is_true _ (add-fits binary64 _ _)))
+
+-- o is what a lookup of the pair's value by the value edges' own ends returned
+pub value_at_law : (setup : Setup) (edges : BuiltEdges) (ends : Ends) (d : Datum) (x : Float) (o : Option ℕ) → setup.reducer ≡ ComponentSumHistogram edges → ends ≡ ends_of edges
+    → x ≡ component_sum d → o ≡ ends_bin edges ends x → o ≡ value_bin setup.reducer d
+value_at_law setup edges ends d x o r e ev h =
+    let u = rw r at setup.usable.values_usable in
+    found_bin edges ends (component_sum d) o (h ∙ ap (ends_bin edges ends) ev) (tabled_ends edges ends u e) (is_true _ (add-fits binary64 _ _)) ∙ ap (λ (k : BuiltReducer). value_bin k d) (sym r)
 
 -- o is the bin of the pair's value
 looked_up : (setup : Setup) (p : Reducer.Pair) (s : List Float) → pair_added setup.reducer (pair_value_bin setup.reducer p) setup.n_states p s ≡ pair_consumed setup p s

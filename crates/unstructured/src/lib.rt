@@ -9,7 +9,7 @@ ghost use Rattle.refusals.specs.Numbers.{number_of};
 ghost use Rattle.reducer.specs.Readings.{op_of, reading_of};
 ghost use Rattle.reducer.specs.Consume.{reducer_size};
 ghost use Rattle.reducer.specs.Usable.{Usable, UsableValues};
-ghost use Rattle.point_pairs.specs.Pairs.{the_pair};
+ghost use Rattle.point_pairs.specs.Pairs.{the_pair, pair_value_bin};
 ghost use Rattle.parallel_serial.specs.Drive.{zero_pack, added_scratch, run_of};
 ghost use Rattle.unstructured_points.specs.Readings.{points_of, the_point};
 ghost use Rattle.unstructured_points.specs.Sets.{sets_of};
@@ -341,6 +341,21 @@ impl Searched<'_> {
         let bin = edge_table::bin_of(self.setup.edges, self.ends, distance);
         Pair::new(self.setup.op, a.rd, b.rd, bin)
     }
+
+    // The bin of the pair's value in a histogram. Irregular edges are searched by halves: the plain lookup reads them one after the other.
+    #[tactic(auto, using(crate::proofs::Batches::value_at_law))]
+    fn value_found(&self, pair: Pair) -> Option<usize>
+        ensures { result ≡ pair_value_bin self.now.setup.now.reducer (the_pair pair) }
+    {
+        match (self.setup.reducer, pair) {
+            (Reducer::ComponentSumHistogram(edges), Pair::Kept(_, c0, c1, c2, weight)) => {
+                let ends = edge_table::ends_of(edges);
+                let value = reducer::component_sum(Datum { c0, c1, c2, weight });
+                edge_table::bin_of(edges, ends, value)
+            }
+            _ => pair.value_bin(self.setup.reducer),
+        }
+    }
 }
 
 impl Rows for Searched<'_> {
@@ -351,7 +366,7 @@ impl Rows for Searched<'_> {
         for j in from..set.n {
             let b = set.point_at(j);
             let pair = self.pair_found(a, b);
-            let value_bin = pair.value_bin(setup.reducer);
+            let value_bin = self.value_found(pair);
             pair.add(setup.reducer, value_bin, setup.n_states, &mut *scratch);
         }
     }
@@ -373,9 +388,10 @@ fn fill_few(setup: &Setup, sets: &Sets<Points>, scratch: &mut [f64])
 impl ReductionSpec for PointPairs<'_> {
     ghost contributed = { λ run setup s. run_filled setup run.sets s };
 
-    // To make hints and room takes some 0.5 µs: below 20 second points a call would take as long as the Rust's.
+    // To make hints and room takes some 0.5 µs: below 20 points a call would take as long as the Rust's. Many first points pay for it from 10 second ones on.
     fn add_contributions(&self, setup: &Setup, scratch: &mut [f64]) {
-        if self.sets.second().n < 20 {
+        let few = if self.sets.first().n < 20 { 20 } else { 10 };
+        if self.sets.second().n < few {
             fill_few(setup, &self.sets, scratch)
         } else {
             fill_many(setup, &self.sets, scratch)

@@ -3,7 +3,7 @@ use lib.ListN.{length}
 use lib.Seq.{length-take-le}
 use Rattle.twopoint_cartesian.specs.Cells.{row_of}
 use Rattle.twopoint_cartesian.proofs.Histograms.{row_done}
-use Rattle.twopoint_cartesian.proofs.held.Histograms.add_row.Goals as goal
+use Rattle.twopoint_cartesian.proofs.held.Histograms.add_batch.Goals as goal
 
 pub returns : goal.returns
 returns c = let x = c.args in
