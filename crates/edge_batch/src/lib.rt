@@ -143,7 +143,8 @@ fn settled_number<const INSIDE: bool>(edges: BuiltEdges, ends: Ends, x: f64) -> 
     }
 }
 
-// The number of one value's bin: the edges' own, as bins_of gives it. Of few values this takes less time than a batch's loops.
+// The number of one value's bin, by its hint first, as in a batch; of few values this takes less time than a batch's loops. That it is the edges' own number
+// is the law number_by_law, since a contract does not know of a float alone that it is one of binary64.
 #[tactic(auto, unfolding(crate::specs::Batch::settled_or))]
 pub fn number_by<const INSIDE: bool>(look: Lookup, x: f64) -> usize
     ensures { result ≡ number_by INSIDE look.entry x }

@@ -342,7 +342,7 @@ impl Searched<'_> {
         Pair::new(self.setup.op, a.rd, b.rd, bin)
     }
 
-    // The bin of the pair's value in a histogram. Irregular edges are searched by halves: the plain lookup reads them one after the other.
+    // The bin of the pair's value in a histogram, looked up as a distance is: the plain lookup reads irregular edges one after the other.
     #[tactic(auto, using(crate::proofs::Batches::value_at_law))]
     fn value_found(&self, pair: Pair) -> Option<usize>
         ensures { result ≡ pair_value_bin self.now.setup.now.reducer (the_pair pair) }
@@ -388,7 +388,8 @@ fn fill_few(setup: &Setup, sets: &Sets<Points>, scratch: &mut [f64])
 impl ReductionSpec for PointPairs<'_> {
     ghost contributed = { λ run setup s. run_filled setup run.sets s };
 
-    // To make hints and room takes some 0.5 µs: below 20 points a call would take as long as the Rust's. Many first points pay for it from 10 second ones on.
+    // To make hints and room takes some 0.5 µs: below 20 points a call over regular edges would take as long as the Rust's. Many first points pay for it from 10 second
+    // ones on.
     fn add_contributions(&self, setup: &Setup, scratch: &mut [f64]) {
         let few = if self.sets.first().n < 20 { 20 } else { 10 };
         if self.sets.second().n < few {
